@@ -1,0 +1,5 @@
+// Where a character stands in a mapping.
+pub enum Found {
+    At(u32),
+    Nothing,
+}
