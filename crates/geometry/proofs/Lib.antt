@@ -1,0 +1,2 @@
+pub mod Rectangles
+pub mod Layers

@@ -1,0 +1,88 @@
+-- Laws of rectangles: `covers` as a fact, and what joins and intersections hold. Assumes nothing.
+use Prim.Native.Nat.{ℕ, _+_, _-_, _≤_, _<_, min, max}
+use native.Mathlib.Omega.{arith}
+use mathlib.Core.Path.{_≡_, refl, ap}
+use mathlib.Core.Bool.{Bool, true, false, cond, _&&_}
+use mathlib.Core.List.{List, [], _∷_}
+use mathlib.Core.Logic.{_⊎_, inl, inr}
+use lib.Dec.{leb, ltb, eqb}
+use borrow.Author.Tests.{leb-true, ltb-true, le-leb, lt-ltb, ne-eqb}
+use Rattle.geometry.specs.declared.Rectangle.{Rectangle}
+use Rattle.geometry.specs.Rectangle.{covers, isEmpty, envelope, join, joins, intersection}
+
+-- a place in a rectangle
+pub record In (a : Rectangle) (c r : ℕ) : Type 0 where
+  pub past-left : a .left ≤ c
+  pub before-right : c < a .left + a .width
+  pub past-top : a .top ≤ r
+  pub before-foot : r < a .top + a .height
+
+pub and-true : (a b : Bool) → (a && b) ≡ true → (a ≡ true) × (b ≡ true)
+and-true true b h = (refl, h)
+and-true false b h = (h, cc)
+
+module _ (a : Rectangle) (c r : ℕ) where
+  pub covers-in : covers a c r ≡ true → In a c r
+  unfolding covers
+  covers-in h =
+      let p = and-true _ _ h in
+      let q = and-true _ _ (p .0) in
+      let o = and-true _ _ (q .0) in
+      record { past-left = leb-true _ _ (o .0); before-right = ltb-true _ _ (o .1); past-top = leb-true _ _ (q .1); before-foot = ltb-true _ _ (p .1) }
+
+  pub in-covers : In a c r → covers a c r ≡ true
+  unfolding covers
+  in-covers h = rw (le-leb (a .left) c (h .past-left), lt-ltb c (a .left + a .width) (h .before-right), le-leb (a .top) r (h .past-top), lt-ltb r (a .top + a .height) (h .before-foot))
+
+  pub out-covers : (In a c r → ⊥) → covers a c r ≡ false
+  out-covers o = go (covers a c r) refl
+    where
+      go : (t : Bool) → covers a c r ≡ t → t ≡ false
+      go true e = absurd (o (covers-in e))
+      go false e = refl
+
+  pub covers-out : covers a c r ≡ false → In a c r → ⊥
+  covers-out e h = let p = in-covers h in let z : _≡_ {A = ℕ} 0 1 = cc in omega arith
+
+  -- a place is in a rectangle, or it is not
+  pub in-or-out : In a c r ⊎ (In a c r → ⊥)
+  in-or-out = go (covers a c r) refl
+    where
+      go : (t : Bool) → covers a c r ≡ t → In a c r ⊎ (In a c r → ⊥)
+      go true e = inl (covers-in e)
+      go false e = inr (covers-out e)
+
+  pub in-not-empty : In a c r → isEmpty a ≡ false
+  unfolding isEmpty
+  in-not-empty h = rw (ne-eqb (a .width) 0 (λ e. omega arith), ne-eqb (a .height) 0 (λ e. omega arith))
+
+-- a place in either of two rectangles is in their join
+module _ (c r : ℕ) where
+  pub join-left : (a b : Rectangle) → In a c r → In (join a b) c r
+  unfolding join envelope
+  join-left a b h = go (isEmpty b)
+    where
+      go : (t : Bool) → In (cond t a (cond (isEmpty a) b (envelope a b))) c r
+      go true = h
+      go false = rw (in-not-empty a c r h) (omega arith)
+
+  pub join-right : (a b : Rectangle) → In b c r → In (join a b) c r
+  unfolding join envelope
+  join-right a b h = rw (in-not-empty b c r h) (go (isEmpty a))
+    where
+      go : (t : Bool) → In (cond t b (envelope a b)) c r
+      go true = h
+      go false = omega arith
+
+  pub joins-first : (a : Rectangle) (bs : List Rectangle) → In a c r → In (joins a bs) c r
+  unfolding joins
+  joins-first a [] h = h
+  joins-first a (b ∷ bs) h = joins-first (join a b) bs (join-left a b h)
+
+  pub intersection-in : (a b : Rectangle) → In a c r → In b c r → In (intersection a b) c r
+  unfolding intersection
+  intersection-in a b h k = omega arith
+
+  pub intersection-both : (a b : Rectangle) → In (intersection a b) c r → (In a c r) × (In b c r)
+  unfolding intersection
+  intersection-both a b h = omega arith
