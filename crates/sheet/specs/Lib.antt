@@ -1,0 +1,5 @@
+pub mod Fields
+pub mod Check
+pub mod Accepted
+pub mod Records
+pub mod Edits
