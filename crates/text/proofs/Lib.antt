@@ -1,2 +1,3 @@
 pub mod Ink
 pub mod StarredLines
+pub mod Exact
