@@ -1,6 +1,6 @@
 -- The page of a sheet: its fresh drawing, the damage rectangle of an edit, and repainting (document 01, Drawing and edits).
 -- Assumes nothing.
-use Prim.Native.Nat.{ℕ, zero, suc, _+_, _*_}
+use Prim.Native.Nat.{ℕ, zero, suc, _+_, _*_, _/_, _%_}
 use mathlib.Core.Bool.{cond}
 use mathlib.Core.List.{List, [], _∷_}
 use lib.ListN.{replicate}
@@ -43,6 +43,13 @@ freshDrawing b frame = paint (frameWidth b) (pageLayer b) frame
 -- how many pixels a frame of the sheet's size has
 abbrev pub pixelCount : List ℕ → ℕ
 pixelCount b = frameWidth b * frameHeight b
+
+-- where pixel k of such a frame stands: "Points run row by row"
+abbrev pub columnOf : List ℕ → ℕ → ℕ
+columnOf b k = origin + k % frameWidth b
+
+abbrev pub rowOf : List ℕ → ℕ → ℕ
+rowOf b k = origin + k / frameWidth b
 
 -- the page of a sheet: its fresh drawing, whatever was on the frame before
 unfoldable pub page : List ℕ → List ℕ
