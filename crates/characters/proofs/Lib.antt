@@ -1,0 +1,6 @@
+pub mod Folds
+pub mod LeadingOnes
+pub mod Sequences
+pub mod Steps
+pub mod Tests
+pub mod Walks
