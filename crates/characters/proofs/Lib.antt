@@ -1,5 +1,6 @@
 pub mod Folds
 pub mod LeadingOnes
+pub mod Parts
 pub mod Sequences
 pub mod Steps
 pub mod Tests
