@@ -1,2 +1,3 @@
+pub mod Exact
 pub mod Damage
 pub mod Repaint

@@ -1,0 +1,89 @@
+-- Under document 01's limits no subtraction from a coordinate is cut at 0: each line of each item of an accepted sheet starts, and has its
+-- top edge, where document 01 puts it in signed numbers. Assumes nothing.
+use Prim.Native.Nat.{ℕ, _+_, _-_, _*_, _/_, _≤_, _<_}
+use native.Mathlib.Nat.{mul-le-mul}
+use native.Mathlib.Omega.{arith}
+use mathlib.Core.Path.{_≡_, refl, sym, ap, _∙_}
+use mathlib.Core.Bool.{Bool, true, false, cond}
+use mathlib.Core.List.{List, List·Memᴰ}
+use lib.Dec.{ltb}
+use lib.IntN.{ℤ, pos, _-ℤ_}
+use lib.ListN.{length, getD, length-take, length-drop}
+use Rattle.geometry.specs.Layer.{origin}
+use Rattle.characters.specs.Utf8.{chars}
+use Rattle.characters.proofs.Folds.{length-chars}
+use Rattle.line.specs.declared.Baseline.{Baseline}
+use Rattle.line.specs.declared.Baseline.the-variants.{Top, Bottom, Middle, Alphabetic}
+use Rattle.line.specs.declared.MonoFont.{MonoFont}
+use Rattle.line.specs.Line.{characterWidth, characterHeight, spacing, baselineOffset, measuredWidth}
+use Rattle.text.specs.Text.{Text, PlacedLine, lines, placeLine, placeLines, placedLines, lineTop}
+use Rattle.text.proofs.Exact.{signedStart, start-exact, top-exact, PlacedAt, placed-at, length-line}
+use Rattle.sheet.specs.Fields.{u16, part, coordinate, itemCount, fontCount, itemAt, fontAt, fontNumber}
+use Rattle.sheet.specs.Accepted.{Accepted}
+use Rattle.sheet.specs.Records.{monoFont, font, itemOf, item}
+
+-- a list of bytes
+abbrev pub Bytes : List ℕ → Type 0
+Bytes b = (k : ℕ) → getD b k 0 < 256
+
+-- the text's x and y leave room on their left and above for any line
+pub record Room (t : Text) : Type 0 where
+  pub at-x : 32_768 ≤ t .position .x
+  pub at-y : 255 ≤ t .position .y
+  pub narrow : characterWidth (t .font .mono) + spacing (t .font .mono) ≤ 128
+  pub low : characterHeight (t .font .mono) ≤ 64
+  pub offset : t .font .mono .baseline ≤ 255
+  pub short : length (t .text) ≤ 256
+
+coordinate-room : (n : ℕ) → n < 65_536 → origin - 32_768 ≤ coordinate n
+unfolding coordinate
+coordinate-room n h = go (ltb n 32_768) refl
+  where
+    go : (t : Bool) → ltb n 32_768 ≡ t → origin - 32_768 ≤ cond t (origin + n) (origin + n - 65_536)
+    go true e = omega arith
+    go false e = ?
+
+u16-small : (b : List ℕ) (o : ℕ) → Bytes b → u16 b o < 65_536
+unfolding u16
+u16-small b o h = omega (arith, h o, h (o + 1))
+
+baseline-room : (m : MonoFont) (a : Baseline) → characterHeight m ≤ 64 → m .baseline ≤ 255 → baselineOffset m a ≤ 255
+unfolding baselineOffset
+baseline-room m Top p q = omega arith
+baseline-room m Bottom p q = omega arith
+baseline-room m Middle p q = omega arith
+baseline-room m Alphabetic p q = q
+
+-- an accepted sheet's items have that room
+pub item-room : (b : List ℕ) (n : ℕ) → Bytes b → Accepted b → n < itemCount b → Room (item b n)
+unfolding item itemOf font monoFont part
+item-room b n h g l =
+    let f = g .item-fits n l in
+    let m = g .font-fits (fontNumber b (itemAt b n)) (f .font-there) in
+    record {
+      at-x = omega (arith, coordinate-room (u16 b (itemAt b n)) (u16-small b (itemAt b n) h));
+      at-y = omega (arith, coordinate-room (u16 b (itemAt b n + 2)) (u16-small b (itemAt b n + 2) h));
+      narrow = omega arith;
+      low = m .ch-small;
+      offset = omega (arith, h (fontAt (fontNumber b (itemAt b n)) + 21));
+      short = simp (length-take, length-drop) (omega arith);
+    }
+
+measured-room : (m : MonoFont) (n : ℕ) → characterWidth m + spacing m ≤ 128 → n ≤ 256 → measuredWidth m n ≤ 32_768
+unfolding measuredWidth
+measured-room m n p q = omega (arith, mul-le-mul q p)
+
+-- a line in its place, in signed numbers
+pub record Exact (t : Text) (bytes : List ℕ) (l : PlacedLine) : Type 0 where
+  pub start : pos (l .x) ≡ signedStart (t .textStyle .alignment) (pos (t .position .x)) (measuredWidth (t .font .mono) (length (chars bytes)))
+  pub top : pos (lineTop t l) ≡ pos (l .y) -ℤ pos (baselineOffset (t .font .mono) (t .textStyle .baseline))
+
+pub lines-exact : (t : Text) → Room t → (l : PlacedLine) → List·Memᴰ l (placedLines t) → (bytes : List ℕ) × List·Memᴰ bytes (lines (t .text)) × Exact t bytes l
+unfolding placedLines placeLine
+lines-exact t r l m = go (placed-at t (lines (t .text)) (t .position .y) l m)
+  where
+    go : PlacedAt t (lines (t .text)) (t .position .y) l → (bytes : List ℕ) × List·Memᴰ bytes (lines (t .text)) × Exact t bytes l
+    go p = (p .bytes, p .listed, record {
+      start = ap (λ (q : PlacedLine). pos (q .x)) (p .placed) ∙ start-exact (t .textStyle .alignment) (t .position .x) (measuredWidth (t .font .mono) (length (chars (p .bytes)))) (omega (arith, measured-room (t .font .mono) (length (chars (p .bytes))) (r .narrow) (omega (arith, length-chars (p .bytes), length-line (t .text) (p .bytes) (p .listed))), r .at-x));
+      top = top-exact (t .font .mono) (t .textStyle .baseline) (l .y) (omega (arith, baseline-room (t .font .mono) (t .textStyle .baseline) (r .low) (r .offset), p .lower, r .at-y));
+    })
