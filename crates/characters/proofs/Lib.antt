@@ -1,0 +1,7 @@
+pub mod Folds
+pub mod LeadingOnes
+pub mod Parts
+pub mod Sequences
+pub mod Steps
+pub mod Tests
+pub mod Walks
