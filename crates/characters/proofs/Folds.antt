@@ -2,7 +2,7 @@
 use mathlib.Core.Path.{_≡_, refl, sym, _∙_, ap}
 use mathlib.Core.Logic.{_⊎_, inl, inr, ⊎-elim}
 use mathlib.Core.Bool.{Bool, true, false}
-use mathlib.Core.List.{List, [], _∷_}
+use mathlib.Core.List.{List, [], _∷_, List·Memᴰ, List·Memᴰ·not-nil, List·Memᴰ·cases-cons}
 use Prim.Native.Nat.{ℕ, zero, suc, _+_, _-_, _<_, _≤_}
 use native.Mathlib.Omega.{arith}
 use denote.Enum.Declared.{tagOf}
@@ -11,10 +11,9 @@ use Rattle.characters.proofs.Step.{the-type}
 use Rattle.characters.specs.declared.Cursor.{Cursor}
 use Rattle.characters.specs.declared.Step.{Step}
 use Rattle.characters.specs.declared.Step.the-variants.{Character, IllFormed, End}
-use Rattle.characters.specs.Refusal.{need}
-use Rattle.characters.specs.Utf8.{stepAt, foldBy, foldAt, charsFrom, wellFormedFrom}
+use Rattle.characters.specs.Utf8.{stepAt, foldBy, foldAt, charsFrom, wellFormedFrom, chars}
 use Rattle.characters.proofs.Sequences.{step-past}
-use Rattle.characters.proofs.Steps.{step-advances, step-ill-formed, step-end}
+use Rattle.characters.proofs.Steps.{IsScalar, Advances, step-advances, step-end}
 
 module _ {A : Type 0} (f : ℕ → A → A) (ill end : A) (s : List ℕ) where
   -- steps enough are enough
@@ -42,6 +41,19 @@ module _ {A : Type 0} (f : ℕ → A → A) (ill end : A) (s : List ℕ) where
     pub fold-end : x ≡ End → foldAt f ill end s at ≡ end
     unfolding foldAt foldBy
     fold-end q = rw (sym e ∙ q)
+
+  -- what the ends have and each character keeps, the fold has
+  pub fold-all : (P : ℕ → A → Type 0) → ((at : ℕ) → P at ill) → ((at : ℕ) → P at end)
+      → ((at ch : ℕ) (c : Cursor) (rest : A) → Advances at (length s) ch c → P (c .at) rest → P at (f ch rest))
+      → (at : ℕ) → P at (foldAt f ill end s at)
+  unfolding foldAt foldBy
+  fold-all P p-ill p-end p-character at = all-by (suc (length s)) at (stepAt s at) refl
+    where
+      all-by : (k at : ℕ) (x : Step) → x ≡ stepAt s at → P at (foldBy f ill end k s x)
+      all-by zero at x e = p-end at
+      all-by (suc k) at (Character ch c) e = p-character at ch c _ (step-advances s at e refl) (all-by k (c .at) (stepAt s (c .at)) refl)
+      all-by (suc k) at IllFormed e = p-ill at
+      all-by (suc k) at End e = p-end at
 
   pub fold-past : (at : ℕ) → length s ≤ at → foldAt f ill end s at ≡ end
   fold-past at h = fold-end at (step-past s at h) refl
@@ -78,3 +90,17 @@ module _ (s : List ℕ) (at : ℕ) {x : Step} (e : x ≡ stepAt s at) where
 pub well-formed-past : (s : List ℕ) (at : ℕ) → length s ≤ at → wellFormedFrom s at ≡ true
 unfolding wellFormedFrom
 well-formed-past = fold-past (λ ch rest. rest) false true
+
+pub length-chars-from : (s : List ℕ) (at : ℕ) → length (charsFrom s at) ≤ length s - at
+unfolding charsFrom
+length-chars-from s =
+    fold-all _∷_ [] [] s (λ at l. length l ≤ length s - at) (λ at. omega arith) (λ at. omega arith) (λ at ch c rest a h. omega arith)
+
+pub length-chars : (s : List ℕ) → length (chars s) ≤ length s
+length-chars s = omega (arith, length-chars-from s 0)
+
+pub chars-scalar : (s : List ℕ) (at : ℕ) {ch : ℕ} → List·Memᴰ ch (charsFrom s at) → IsScalar ch
+unfolding charsFrom
+chars-scalar s at {ch} =
+    fold-all _∷_ [] [] s (λ at l. List·Memᴰ ch l → IsScalar ch) (λ at m. absurd (List·Memᴰ·not-nil m)) (λ at m. absurd (List·Memᴰ·not-nil m))
+    (λ at x c rest a h m. ⊎-elim (λ e. rw e (a .is-scalar)) h (List·Memᴰ·cases-cons m)) at

@@ -18,12 +18,16 @@ pub cond-both : {A : Type 0} (P : A → Type 0) (t : Bool) (x y : A) → (t ≡ 
 cond-both P true x y f g = f refl
 cond-both P false x y f g = g refl
 
+-- a number that stands for a character: Rust's `char`
+pub record IsScalar (ch : ℕ) : Type 0 where
+  pub no-surrogate : isSurrogate ch ≡ false
+  pub in-range : ch ≤ 0x10FFFF
+
 -- from `at`, within n bytes, to the character ch with c after it
 pub record Advances (at n ch : ℕ) (c : Cursor) : Type 0 where
   pub forward : at < c .at
   pub within : c .at ≤ n
-  pub no-surrogate : isSurrogate ch ≡ false
-  pub in-range : ch ≤ 0x10FFFF
+  pub is-scalar : IsScalar ch
 
 -- what a step at a position of n bytes can be
 abbrev pub Steps : ℕ → ℕ → Step → Type 0
@@ -37,7 +41,7 @@ module _ (at n next : ℕ) (f : at < next) (w : next ≤ n) where
   scalar-steps v least = cond-both (Steps at n) (leb least v && (not (isSurrogate v) && leb v 0x10FFFF)) _ _ (λ e.
       let r = and-eq-true-iff (leb least v) _ .0 e .1 in
       let q = and-eq-true-iff (not (isSurrogate v)) _ .0 r in
-      record { forward = f; within = w; no-surrogate = not-true _ (q .0); in-range = leb-true _ _ (q .1) })
+      record { forward = f; within = w; is-scalar = record { no-surrogate = not-true _ (q .0); in-range = leb-true _ _ (q .1) } })
       (λ e. omega arith)
 
   continued-steps : (t : Bool) (v least : ℕ) → Steps at n (cond t (scalar v least next) IllFormed)
@@ -81,7 +85,7 @@ sequence-steps n s at e h =
     let S : Step → Type 0 = Steps at (length s) in
     cond-both S (eqb n 0) _ _ (λ z.
     let a = alone-small (getD s at 0) (sym e ∙ eqb-true n 0 z) in
-    record { forward = omega arith; within = omega arith; no-surrogate = small-no-surrogate _ (omega arith); in-range = omega arith }) (λ z.
+    record { forward = omega arith; within = omega arith; is-scalar = record { no-surrogate = small-no-surrogate _ (omega arith); in-range = omega arith } }) (λ z.
     cond-both S (ltb (length s - at) n) _ _ (λ l. h) (λ l.
     let m = ltb-false (length s - at) n l in
     cond-both S (eqb n 2) _ _ (λ q. let i = eqb-true n 2 q in two-steps at _ (at + 2) (omega arith) (omega arith) _ _) (λ q.

@@ -1,0 +1,9 @@
+pub mod Refusals
+pub mod Pieces
+pub mod Acceptance
+pub mod Bytes
+pub mod Stores
+pub mod Allowed
+pub mod Unchanged
+pub mod EditedItem
+pub mod Stays
