@@ -9,6 +9,7 @@ use mathlib.Core.List.{List, List·Memᴰ}
 use lib.Dec.{ltb}
 use lib.IntN.{ℤ, pos, _-ℤ_}
 use lib.ListN.{length, getD, length-take, length-drop}
+use borrow.Author.Tests.{ltb-false}
 use Rattle.geometry.specs.Layer.{origin}
 use Rattle.characters.specs.Utf8.{chars}
 use Rattle.characters.proofs.Folds.{length-chars}
@@ -19,8 +20,10 @@ use Rattle.line.specs.Line.{characterWidth, characterHeight, spacing, baselineO
 use Rattle.text.specs.Text.{Text, PlacedLine, lines, placeLine, placeLines, placedLines, lineTop}
 use Rattle.text.proofs.Exact.{signedStart, start-exact, top-exact, PlacedAt, placed-at, length-line}
 use Rattle.sheet.specs.Fields.{u16, part, coordinate, itemCount, fontCount, itemAt, fontAt, fontNumber}
+use Rattle.sheet.specs.Check.{check}
 use Rattle.sheet.specs.Accepted.{Accepted}
 use Rattle.sheet.specs.Records.{monoFont, font, itemOf, item}
+use Rattle.sheet.proofs.Acceptance.{accepted}
 
 -- a list of bytes
 abbrev pub Bytes : List ℕ → Type 0
@@ -41,7 +44,7 @@ coordinate-room n h = go (ltb n 32_768) refl
   where
     go : (t : Bool) → ltb n 32_768 ≡ t → origin - 32_768 ≤ cond t (origin + n) (origin + n - 65_536)
     go true e = omega arith
-    go false e = ?
+    go false e = omega (arith, ltb-false n 32_768 e)
 
 u16-small : (b : List ℕ) (o : ℕ) → Bytes b → u16 b o < 65_536
 unfolding u16
@@ -73,17 +76,29 @@ measured-room : (m : MonoFont) (n : ℕ) → characterWidth m + spacing m ≤ 12
 unfolding measuredWidth
 measured-room m n p q = omega (arith, mul-le-mul q p)
 
--- a line in its place, in signed numbers
-pub record Exact (t : Text) (bytes : List ℕ) (l : PlacedLine) : Type 0 where
+-- a placed line, from the bytes of the line, in document 01's signed numbers
+pub record Exact (t : Text) (l : PlacedLine) : Type 0 where
+  pub bytes : List ℕ
+  pub listed : List·Memᴰ bytes (lines (t .text))
   pub start : pos (l .x) ≡ signedStart (t .textStyle .alignment) (pos (t .position .x)) (measuredWidth (t .font .mono) (length (chars bytes)))
   pub top : pos (lineTop t l) ≡ pos (l .y) -ℤ pos (baselineOffset (t .font .mono) (t .textStyle .baseline))
 
-pub lines-exact : (t : Text) → Room t → (l : PlacedLine) → List·Memᴰ l (placedLines t) → (bytes : List ℕ) × List·Memᴰ bytes (lines (t .text)) × Exact t bytes l
+lines-exact : (t : Text) → Room t → (l : PlacedLine) → List·Memᴰ l (placedLines t) → Exact t l
 unfolding placedLines placeLine
 lines-exact t r l m = go (placed-at t (lines (t .text)) (t .position .y) l m)
   where
-    go : PlacedAt t (lines (t .text)) (t .position .y) l → (bytes : List ℕ) × List·Memᴰ bytes (lines (t .text)) × Exact t bytes l
-    go p = (p .bytes, p .listed, record {
-      start = ap (λ (q : PlacedLine). pos (q .x)) (p .placed) ∙ start-exact (t .textStyle .alignment) (t .position .x) (measuredWidth (t .font .mono) (length (chars (p .bytes)))) (omega (arith, measured-room (t .font .mono) (length (chars (p .bytes))) (r .narrow) (omega (arith, length-chars (p .bytes), length-line (t .text) (p .bytes) (p .listed))), r .at-x));
-      top = top-exact (t .font .mono) (t .textStyle .baseline) (l .y) (omega (arith, baseline-room (t .font .mono) (t .textStyle .baseline) (r .low) (r .offset), p .lower, r .at-y));
-    })
+    go : PlacedAt t (lines (t .text)) (t .position .y) l → Exact t l
+    go p =
+        let n = length (chars (p .bytes)) in
+        let few : n ≤ 256 = omega (arith, length-chars (p .bytes), length-line (t .text) (p .bytes) (p .listed), r .short) in
+        let w : measuredWidth (t .font .mono) n ≤ 32_768 = measured-room (t .font .mono) n (r .narrow) few in
+        let o = baseline-room (t .font .mono) (t .textStyle .baseline) (r .low) (r .offset) in
+        record {
+          bytes = p .bytes;
+          listed = p .listed;
+          start = ap (λ (q : PlacedLine). pos (q .x)) (p .placed) ∙ start-exact (t .textStyle .alignment) (t .position .x) (measuredWidth (t .font .mono) n) (omega (arith, r .at-x));
+          top = top-exact (t .font .mono) (t .textStyle .baseline) (l .y) (omega (arith, p .lower, r .at-y));
+        }
+
+pub sheet-exact : (b : List ℕ) → Bytes b → check b ≡ 0 → (n : ℕ) → n < itemCount b → (l : PlacedLine) → List·Memᴰ l (placedLines (item b n)) → Exact (item b n) l
+sheet-exact b h c n l = lines-exact (item b n) (item-room b n h (accepted b c) l)

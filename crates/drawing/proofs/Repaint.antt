@@ -91,7 +91,8 @@ items-agree b b′ c r (n ∷ ns) h g =
 -- ---- one accepted edit of an accepted sheet
 
 module _ (b : List ℕ) (e : Edit) (g : Accepted b) (a : refusal b e ≡ 0) where
-  same-order : order (edited b e) ≡ order b
+  -- the items are drawn in the same order
+  pub same-order : order (edited b e) ≡ order b
   unfolding order
   same-order = rw (same-itemCount b e g a)
 

@@ -107,8 +107,8 @@ one-edit b frame e z = record {
   replied = rw z;
   sheet = rw z;
   same-size = rw z (length-paint (frameWidth (edited b e)) _ frame);
-  inside = λ k l q. rw z (repainted-inside (edited b e) k (editDamage b e) frame (sized k) (placed k l) (rw wide q));
-  outside = λ k l q. rw z (repainted-outside (edited b e) k (editDamage b e) frame (sized k) (placed k l) (rw wide q));
+  inside = λ k l q. rw z (repainted-inside (edited b e) k (editDamage b e) frame sized (placed k l) (rw wide q));
+  outside = λ k l q. rw z (repainted-outside (edited b e) k (editDamage b e) frame sized (placed k l) (rw wide q));
 }
   where
     checked : (check b ≡ 0) × (fits b frame (refusal b e) ≡ 0)
@@ -120,8 +120,8 @@ one-edit b frame e z = record {
     wide : frameWidth (edited b e) ≡ frameWidth b
     wide = same-frameWidth b e (accepted b (checked .0)) (allowed .1)
 
-    sized : ℕ → length frame ≡ pixelCount (edited b e)
-    sized k = eqb-true (length frame) (pixelCount b) (allowed .0) ∙ sym (same-pixelCount b e (accepted b (checked .0)) (allowed .1))
+    sized : length frame ≡ pixelCount (edited b e)
+    sized = eqb-true (length frame) (pixelCount b) (allowed .0) ∙ sym (same-pixelCount b e (accepted b (checked .0)) (allowed .1))
 
     placed : (k : ℕ) → k < length frame → k < pixelCount (edited b e)
-    placed k l = omega (arith, sized k)
+    placed k l = omega (arith, sized)

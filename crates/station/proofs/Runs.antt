@@ -1,17 +1,15 @@
 -- What one call of demand 3's runs makes of an accepted sheet: the plain machine's step. Assumes nothing.
-use Prim.Native.Nat.{ℕ, zero, suc, _+_, _/_, _%_, _<_}
-use native.Mathlib.Omega.{arith}
-use mathlib.Core.Path.{_≡_, refl, sym, ap, _∙_}
-use mathlib.Core.Bool.{Bool, true, false}
-use mathlib.Core.List.{List, [], _∷_}
+use Prim.Native.Nat.{ℕ, zero, suc}
+use mathlib.Core.Path.{_≡_, refl}
+use mathlib.Core.List.{List}
 use lib.ListN.{length}
 use borrow.Author.Tests.{eq-eqb}
 use Rattle.characters.specs.Refusal.{unlessRefused}
 use Rattle.sheet.specs.Check.{check}
-use Rattle.sheet.specs.Edits.{Edit, itemNumber, refusal, edited}
+use Rattle.sheet.specs.Edits.{Edit, refusal, edited}
 use Rattle.sheet.proofs.Acceptance.{accepted}
 use Rattle.sheet.proofs.Stays.{stays}
-use Rattle.drawing.specs.Drawing.{pixelCount, freshDrawing, page, repainted}
+use Rattle.drawing.specs.Drawing.{pixelCount, page, repainted}
 use Rattle.drawing.proofs.Repaint.{fresh-page, length-page, same-pixelCount, repaint-page}
 use Rattle.station.specs.Calls.{editDamage, drawCode, drawFrame, editCode, editReply, editSheet, editFrame, onSheetCode, onSheetReply, onSheetSheet}
 use Rattle.station.specs.Machine.{plainStep, plainReply}
@@ -30,10 +28,6 @@ module _ (b frame : List ℕ) (c : check b ≡ 0) (n : length frame ≡ pixelCou
 -- ---- one step of the plain machine
 
 module _ (b : List ℕ) (e : Edit) (c : check b ≡ 0) where
-  by-refusal : {A : Type 0} (P : ℕ → A → Type 0) (n : ℕ) (x y : A) → (n ≡ 0 → P 0 x) → ((m : ℕ) → P (suc m) y) → P n (unlessRefused n x y)
-  by-refusal P zero x y f g = f refl
-  by-refusal P (suc m) x y f g = g m
-
   -- it leaves an accepted sheet of the same size
   pub step-accepted : check (plainStep b e) ≡ 0
   unfolding plainStep
