@@ -22,7 +22,7 @@ use Rattle.text.proofs.Exact.{signedStart, start-exact, top-exact, PlacedAt, pl
 use Rattle.sheet.specs.Fields.{u16, part, coordinate, itemCount, fontCount, itemAt, fontAt, fontNumber}
 use Rattle.sheet.specs.Check.{check}
 use Rattle.sheet.specs.Accepted.{Accepted}
-use Rattle.sheet.specs.Records.{monoFont, font, itemOf, item}
+use Rattle.sheet.specs.Records.{monoFont, font, itemOf, item, itemFont}
 use Rattle.sheet.proofs.Acceptance.{accepted}
 
 -- a list of bytes
@@ -30,12 +30,12 @@ abbrev pub Bytes : List ℕ → Type 0
 Bytes b = (k : ℕ) → getD b k 0 < 256
 
 -- the text's x and y leave room on their left and above for any line
-pub record Room (t : Text) : Type 0 where
+pub record Room (m : MonoFont) (t : Text) : Type 0 where
   pub at-x : 32_768 ≤ t .position .x
   pub at-y : 255 ≤ t .position .y
-  pub narrow : characterWidth (t .font .mono) + spacing (t .font .mono) ≤ 128
-  pub low : characterHeight (t .font .mono) ≤ 64
-  pub offset : t .font .mono .baseline ≤ 255
+  pub narrow : characterWidth m + spacing m ≤ 128
+  pub low : characterHeight m ≤ 64
+  pub offset : m .baseline ≤ 255
   pub short : length (t .text) ≤ 256
 
 coordinate-room : (n : ℕ) → n < 65_536 → origin - 32_768 ≤ coordinate n
@@ -58,16 +58,16 @@ baseline-room m Middle p q = omega arith
 baseline-room m Alphabetic p q = q
 
 -- an accepted sheet's items have that room
-pub item-room : (b : List ℕ) (n : ℕ) → Bytes b → Accepted b → n < itemCount b → Room (item b n)
-unfolding item itemOf font monoFont part
+pub item-room : (b : List ℕ) (n : ℕ) → Bytes b → Accepted b → n < itemCount b → Room (itemFont b n .mono) (item b n)
+unfolding item itemOf itemFont font monoFont part
 item-room b n h g l =
     let f = g .item-fits n l in
-    let m = g .font-fits (fontNumber b (itemAt b n)) (f .font-there) in
+    let k = g .font-fits (fontNumber b (itemAt b n)) (f .font-there) in
     record {
       at-x = omega (arith, coordinate-room (u16 b (itemAt b n)) (u16-small b (itemAt b n) h));
       at-y = omega (arith, coordinate-room (u16 b (itemAt b n + 2)) (u16-small b (itemAt b n + 2) h));
       narrow = omega arith;
-      low = m .ch-small;
+      low = k .ch-small;
       offset = omega (arith, h (fontAt (fontNumber b (itemAt b n)) + 21));
       short = simp (length-take, length-drop) (omega arith);
     }
@@ -77,28 +77,28 @@ unfolding measuredWidth
 measured-room m n p q = omega (arith, mul-le-mul q p)
 
 -- a placed line, from the bytes of the line, in document 01's signed numbers
-pub record Exact (t : Text) (l : PlacedLine) : Type 0 where
+pub record Exact (m : MonoFont) (t : Text) (l : PlacedLine) : Type 0 where
   pub bytes : List ℕ
   pub listed : List·Memᴰ bytes (lines (t .text))
-  pub start : pos (l .x) ≡ signedStart (t .textStyle .alignment) (pos (t .position .x)) (measuredWidth (t .font .mono) (length (chars bytes)))
-  pub top : pos (lineTop t l) ≡ pos (l .y) -ℤ pos (baselineOffset (t .font .mono) (t .textStyle .baseline))
+  pub start : pos (l .x) ≡ signedStart (t .textStyle .alignment) (pos (t .position .x)) (measuredWidth m (length (chars bytes)))
+  pub top : pos (lineTop m t l) ≡ pos (l .y) -ℤ pos (baselineOffset m (t .textStyle .baseline))
 
-lines-exact : (t : Text) → Room t → (l : PlacedLine) → List·Memᴰ l (placedLines t) → Exact t l
+lines-exact : (m : MonoFont) (t : Text) → Room m t → (l : PlacedLine) → List·Memᴰ l (placedLines m t) → Exact m t l
 unfolding placedLines placeLine
-lines-exact t r l m = go (placed-at t (lines (t .text)) (t .position .y) l m)
+lines-exact m t r l q = go (placed-at m t l (lines (t .text)) (t .position .y) q)
   where
-    go : PlacedAt t (lines (t .text)) (t .position .y) l → Exact t l
+    go : PlacedAt m t (lines (t .text)) (t .position .y) l → Exact m t l
     go p =
         let n = length (chars (p .bytes)) in
         let few : n ≤ 256 = omega (arith, length-chars (p .bytes), length-line (t .text) (p .bytes) (p .listed), r .short) in
-        let w : measuredWidth (t .font .mono) n ≤ 32_768 = measured-room (t .font .mono) n (r .narrow) few in
-        let o = baseline-room (t .font .mono) (t .textStyle .baseline) (r .low) (r .offset) in
+        let w : measuredWidth m n ≤ 32_768 = measured-room m n (r .narrow) few in
+        let o = baseline-room m (t .textStyle .baseline) (r .low) (r .offset) in
         record {
           bytes = p .bytes;
           listed = p .listed;
-          start = ap (λ (q : PlacedLine). pos (q .x)) (p .placed) ∙ start-exact (t .textStyle .alignment) (t .position .x) (measuredWidth (t .font .mono) n) (omega (arith, r .at-x));
-          top = top-exact (t .font .mono) (t .textStyle .baseline) (l .y) (omega (arith, p .lower, r .at-y));
+          start = ap (λ (q : PlacedLine). pos (q .x)) (p .placed) ∙ start-exact (t .textStyle .alignment) (t .position .x) (measuredWidth m n) (omega (arith, r .at-x));
+          top = top-exact m (t .textStyle .baseline) (l .y) (omega (arith, p .lower, r .at-y));
         }
 
-pub sheet-exact : (b : List ℕ) → Bytes b → check b ≡ 0 → (n : ℕ) → n < itemCount b → (l : PlacedLine) → List·Memᴰ l (placedLines (item b n)) → Exact (item b n) l
-sheet-exact b h c n l = lines-exact (item b n) (item-room b n h (accepted b c) l)
+pub sheet-exact : (b : List ℕ) → Bytes b → check b ≡ 0 → (n : ℕ) → n < itemCount b → (l : PlacedLine) → List·Memᴰ l (placedLines (itemFont b n .mono) (item b n)) → Exact (itemFont b n .mono) (item b n) l
+sheet-exact b h c n l = lines-exact (itemFont b n .mono) (item b n) (item-room b n h (accepted b c) l)

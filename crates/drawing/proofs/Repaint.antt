@@ -20,12 +20,12 @@ use Rattle.text.proofs.Ink.{layer-out}
 use Rattle.sheet.specs.Fields.{frameWidth, frameHeight, paper, itemCount}
 use Rattle.sheet.specs.Check.{check}
 use Rattle.sheet.specs.Accepted.{Accepted}
-use Rattle.sheet.specs.Records.{item}
+use Rattle.sheet.specs.Records.{item, itemFont}
 use Rattle.sheet.specs.Edits.{Edit, itemNumber, refusal, edited}
 use Rattle.sheet.proofs.Acceptance.{accepted}
 use Rattle.sheet.proofs.Allowed.{listed}
-use Rattle.sheet.proofs.Unchanged.{same-frameWidth, same-frameHeight, same-paper, same-itemCount, same-other}
-use Rattle.drawing.specs.Drawing.{numbersFrom, order, itemLayer, itemsLayer, pageLayer, freshDrawing, pixelCount, columnOf, rowOf, page, damage, repainted}
+use Rattle.sheet.proofs.Unchanged.{same-frameWidth, same-frameHeight, same-paper, same-itemCount, same-other, same-itemFont}
+use Rattle.drawing.specs.Drawing.{numbersFrom, order, itemLayer, itemsLayer, pageLayer, freshDrawing, pixelCount, columnOf, rowOf, page, itemInk, damage, repainted}
 use Rattle.drawing.proofs.Damage.{damage-before, damage-after}
 
 -- ---- the order of drawing
@@ -102,15 +102,15 @@ module _ (b : List ℕ) (e : Edit) (g : Accepted b) (a : refusal b e ≡ 0) wher
   -- another item paints as before
   pub other-paints : (j : ℕ) → j < itemCount b → (j ≡ itemNumber e → ⊥) → (c r grey : ℕ) → itemLayer b j c r grey ≡ itemLayer (edited b e) j c r grey
   unfolding itemLayer
-  other-paints j l d c r grey = rw (same-other b e g a j l d)
+  other-paints j l d c r grey = rw (same-itemFont b e g a j l, same-other b e g a j l d)
 
   module _ (c r : ℕ) (wide : c < frameWidth b) (high : r < frameHeight b) (out : In (damage b (edited b e) (itemNumber e)) (origin + c) (origin + r) → ⊥) where
     -- the edited item paints nothing there, before or after
     edited-paints : (grey : ℕ) → itemLayer b (itemNumber e) (origin + c) (origin + r) grey ≡ itemLayer (edited b e) (itemNumber e) (origin + c) (origin + r) grey
-    unfolding itemLayer
+    unfolding itemLayer itemInk
     edited-paints grey =
-        layer-out (item b (itemNumber e)) (origin + c) (origin + r) grey (λ h. out (damage-before b (edited b e) (itemNumber e) c r wide high h))
-        ∙ sym (layer-out (item (edited b e) (itemNumber e)) (origin + c) (origin + r) grey (λ h. out (damage-after b (edited b e) (itemNumber e) c r wide high h)))
+        layer-out (itemFont b (itemNumber e)) (item b (itemNumber e)) (origin + c) (origin + r) grey (λ h. out (damage-before b (edited b e) (itemNumber e) c r wide high h))
+        ∙ sym (layer-out (itemFont (edited b e) (itemNumber e)) (item (edited b e) (itemNumber e)) (origin + c) (origin + r) grey (λ h. out (damage-after b (edited b e) (itemNumber e) c r wide high h)))
 
     item-paints : (j : ℕ) → List·Memᴰ j (order b) → (grey : ℕ) → itemLayer b j (origin + c) (origin + r) grey ≡ itemLayer (edited b e) j (origin + c) (origin + r) grey
     item-paints j m grey = go (eqb j (itemNumber e)) refl

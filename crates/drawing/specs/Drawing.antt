@@ -8,10 +8,11 @@ use Rattle.geometry.specs.declared.Point.{Point}
 use Rattle.geometry.specs.declared.Rectangle.{Rectangle}
 use Rattle.geometry.specs.Rectangle.{rectangle, isEmpty, join, intersection}
 use Rattle.geometry.specs.Layer.{origin, Layer, transparent, over, paint, paintIn, frameOf}
+use Rattle.line.specs.declared.MonoFont.{MonoFont}
 use Rattle.line.specs.Line.{topEdge, whitespace}
 use Rattle.text.specs.Text.{Text, layer, inkBox}
 use Rattle.sheet.specs.Fields.{frameWidth, frameHeight, paper, itemCount}
-use Rattle.sheet.specs.Records.{item}
+use Rattle.sheet.specs.Records.{item, itemFont}
 
 -- ---- fresh drawing
 
@@ -26,7 +27,7 @@ order b = numbersFrom 0 (itemCount b)
 
 -- what item n paints
 unfoldable pub itemLayer : List ℕ → ℕ → Layer
-itemLayer b n = layer (item b n)
+itemLayer b n = layer (itemFont b n) (item b n)
 
 -- what the items of a list paint, one after another
 unfoldable pub itemsLayer : List ℕ → List ℕ → Layer
@@ -57,8 +58,8 @@ page b = freshDrawing b (replicate (pixelCount b) 0)
 
 -- ---- whitespace: "takes an item's x, y, style and baseline"
 
-unfoldable pub whitespaceLayer : Text → ℕ → Layer
-whitespaceLayer t width = whitespace (t .font .mono) (t .characterStyle) width (t .position .x) (topEdge (t .font .mono) (t .textStyle .baseline) (t .position .y))
+unfoldable pub whitespaceLayer : MonoFont → Text → ℕ → Layer
+whitespaceLayer m t width = whitespace m (t .characterStyle) width (t .position .x) (topEdge m (t .textStyle .baseline) (t .position .y))
 
 unfoldable pub whitespaceNext : Text → ℕ → Point
 whitespaceNext t width = record { x = t .position .x + width; y = t .position .y }
@@ -69,9 +70,13 @@ whitespaceNext t width = record { x = t .position .x + width; y = t .position .y
 unfoldable pub orNone : Rectangle → Rectangle
 orNone a = cond (isEmpty a) (rectangle origin origin 0 0) a
 
+-- the ink box of item n
+unfoldable pub itemInk : List ℕ → ℕ → Rectangle
+itemInk b n = inkBox (itemFont b n .mono) (item b n)
+
 -- "the smallest holding the boxes before and after, cut to the frame": of item n, from the bytes before and after
 unfoldable pub damage : List ℕ → List ℕ → ℕ → Rectangle
-damage b b′ n = orNone (intersection (join (inkBox (item b n)) (inkBox (item b′ n))) (frameOf (frameWidth b) (frameHeight b)))
+damage b b′ n = orNone (intersection (join (itemInk b n) (itemInk b′ n)) (frameOf (frameWidth b) (frameHeight b)))
 
 -- the page's pixels in a rectangle painted on a frame, and no others
 unfoldable pub repainted : List ℕ → Rectangle → List ℕ → List ℕ

@@ -18,7 +18,7 @@ use Rattle.line.specs.Line.{glyphIndex}
 use Rattle.text.specs.Text.{next, boundingBox}
 use Rattle.sheet.specs.Fields.{frameWidth, fontCount, itemCount}
 use Rattle.sheet.specs.Check.{check}
-use Rattle.sheet.specs.Records.{font, item}
+use Rattle.sheet.specs.Records.{font, item, itemFont}
 use Rattle.sheet.specs.Edits.{Edit, itemNumber, refusal, edited}
 use Rattle.drawing.specs.Drawing.{itemLayer, freshDrawing, pixelCount, whitespaceLayer, whitespaceNext, damage, repainted}
 use Rattle.station.specs.declared.Number.{Number}
@@ -81,7 +81,7 @@ unfoldable pub itemCode : List ℕ → ℕ → ℕ
 itemCode b n = orElse (check b) (isThere n (itemCount b) 0)
 
 unfoldable pub boundingBoxReply : List ℕ → ℕ → Box
-boundingBoxReply b n = boxReply (itemCode b n) (boundingBox (item b n))
+boundingBoxReply b n = boxReply (itemCode b n) (boundingBox (itemFont b n .mono) (item b n))
 
 -- ---- station_draw_item
 
@@ -89,7 +89,7 @@ unfoldable pub drawItemCode : List ℕ → List ℕ → ℕ → ℕ
 drawItemCode b frame n = orElse (check b) (fits b frame (isThere n (itemCount b) 0))
 
 unfoldable pub drawItemReply : List ℕ → List ℕ → ℕ → Position
-drawItemReply b frame n = positionReply (drawItemCode b frame n) (next (item b n))
+drawItemReply b frame n = positionReply (drawItemCode b frame n) (next (itemFont b n .mono) (item b n))
 
 unfoldable pub drawItemFrame : List ℕ → List ℕ → ℕ → List ℕ
 drawItemFrame b frame n = unlessRefused (drawItemCode b frame n) (paint (frameWidth b) (itemLayer b n) frame) frame
@@ -103,7 +103,7 @@ unfoldable pub whitespaceReply : List ℕ → List ℕ → ℕ → ℕ → Posit
 whitespaceReply b frame n width = positionReply (whitespaceCode b frame n width) (whitespaceNext (item b n) width)
 
 unfoldable pub whitespaceFrame : List ℕ → List ℕ → ℕ → ℕ → List ℕ
-whitespaceFrame b frame n width = unlessRefused (whitespaceCode b frame n width) (paint (frameWidth b) (whitespaceLayer (item b n) width) frame) frame
+whitespaceFrame b frame n width = unlessRefused (whitespaceCode b frame n width) (paint (frameWidth b) (whitespaceLayer (itemFont b n .mono) (item b n) width) frame) frame
 
 -- ---- station_draw
 

@@ -43,26 +43,27 @@ top-exact m b y h = pos-sub y (baselineOffset m b) h
 
 -- ---- every placed line is a line of the text, no higher than the text's position
 
-pub record PlacedAt (t : Text) (ls : List (List ℕ)) (y : ℕ) (p : PlacedLine) : Type 0 where
+pub record PlacedAt (m : MonoFont) (t : Text) (ls : List (List ℕ)) (y : ℕ) (p : PlacedLine) : Type 0 where
   pub bytes : List ℕ
   pub listed : List·Memᴰ bytes ls
-  pub placed : p ≡ placeLine t bytes (p .y)
+  pub placed : p ≡ placeLine m t bytes (p .y)
   pub lower : y ≤ p .y
 
 -- how much lower each line of a text stands
-abbrev lower-by : Text → ℕ
-lower-by t = lineHeight (t .font .mono) (t .textStyle .«line_height»)
+abbrev lower-by : MonoFont → Text → ℕ
+lower-by m t = lineHeight m (t .textStyle .«line_height»)
 
-pub placed-at : (t : Text) (ls : List (List ℕ)) (y : ℕ) (p : PlacedLine) → List·Memᴰ p (placeLines t ls y) → PlacedAt t ls y p
-unfolding placeLines placeLine
-placed-at t [] y p m = absurd (List·Memᴰ·not-nil m)
-placed-at t (l ∷ ls) y p m = go (placed-at t ls (y + lower-by t) p) (List·Memᴰ·cases-cons m)
-  where
-    go : (List·Memᴰ p (placeLines t ls (y + lower-by t)) → PlacedAt t ls (y + lower-by t) p) → (p ≡ placeLine t l y) ⊎ List·Memᴰ p (placeLines t ls (y + lower-by t)) → PlacedAt t (l ∷ ls) y p
-    go ih (inl e) =
-        let d : y ≡ p .y = sym (ap (λ (q : PlacedLine). q .y) e) in
-        record { bytes = l; listed = List·Memᴰ·head refl; placed = e ∙ ap (placeLine t l) d; lower = omega arith }
-    go ih (inr q) = let a = ih q in record { bytes = a .bytes; listed = List·Memᴰ·tail (a .listed); placed = a .placed; lower = omega arith }
+module _ (m : MonoFont) (t : Text) (p : PlacedLine) where
+  pub placed-at : (ls : List (List ℕ)) (y : ℕ) → List·Memᴰ p (placeLines m t ls y) → PlacedAt m t ls y p
+  unfolding placeLines placeLine
+  placed-at [] y q = absurd (List·Memᴰ·not-nil q)
+  placed-at (l ∷ ls) y q = go (placed-at ls (y + lower-by m t)) (List·Memᴰ·cases-cons q)
+    where
+      go : (List·Memᴰ p (placeLines m t ls (y + lower-by m t)) → PlacedAt m t ls (y + lower-by m t) p) → (p ≡ placeLine m t l y) ⊎ List·Memᴰ p (placeLines m t ls (y + lower-by m t)) → PlacedAt m t (l ∷ ls) y p
+      go ih (inl e) =
+          let d : y ≡ p .y = sym (ap (λ (q : PlacedLine). q .y) e) in
+          record { bytes = l; listed = List·Memᴰ·head refl; placed = e ∙ ap (placeLine m t l) d; lower = omega arith }
+      go ih (inr q) = let a = ih q in record { bytes = a .bytes; listed = List·Memᴰ·tail (a .listed); placed = a .placed; lower = omega arith }
 
 -- a line is no longer than its text
 before-length : (c n : ℕ) (ls : List (List ℕ)) → ((l : List ℕ) → List·Memᴰ l ls → length l ≤ n) → (l : List ℕ) → List·Memᴰ l (before c ls) → length l ≤ suc n

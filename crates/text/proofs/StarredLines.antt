@@ -47,26 +47,28 @@ abbrev style : OptionalGrey → OptionalGrey → DecorationColor → MonoTextSty
 style text background underline = record { «text_color» = text; «background_color» = background; «underline_color» = underline; «strikethrough_color» = None }
 
 -- a text in row 0
-abbrev sample : ℕ → MonoTextStyle → Alignment → ℕ → List ℕ → Text.Text
-sample replacement s a x bytes = record {
+abbrev sample : MonoTextStyle → Alignment → ℕ → List ℕ → Text.Text
+sample s a x bytes = record {
   text = bytes;
   position = record { x = origin + x; y = origin };
-  font = font replacement;
   characterStyle = s;
   textStyle = record { alignment = a; baseline = Top; «line_height» = Pixels 2 };
 }
 
 -- "Left, Top, at (0, 0) unless said"
-abbrev left : ℕ → MonoTextStyle → List ℕ → Text.Text
-left replacement s bytes = sample replacement s Left 0 bytes
+abbrev left : MonoTextStyle → List ℕ → Text.Text
+left s bytes = sample s Left 0 bytes
 
 -- a text drawn on a frame w wide of n pixels of one grey
-abbrev drawn : Text.Text → ℕ → ℕ → ℕ → List ℕ
-drawn t w n grey = Layer.paint w (Text.layer t) (replicate n grey)
+abbrev drawn : ℕ → Text.Text → ℕ → ℕ → ℕ → List ℕ
+drawn replacement t w n grey = Layer.paint w (Text.layer (font replacement) t) (replicate n grey)
+
+abbrev next : ℕ → Text.Text → Point
+next replacement t = Text.next (mono 2 replacement) t
 
 -- where the lines of a text start
 abbrev starts : Text.Text → List ℕ
-starts t = map (λ (l : Text.PlacedLine). l .x) (Text.placedLines t)
+starts t = map (λ (l : Text.PlacedLine). l .x) (Text.placedLines (mono 2 1) t)
 
 abbrev position : ℕ → ℕ → Point
 position x y = record { x = origin + x; y = origin + y }
@@ -83,24 +85,24 @@ underlined = style Unset Unset (Custom 7)
 -- where a pixel is untouched, it has the frame's grey g, whatever that is
 pub record StarredLines : Type 0 where
   -- "`AB`, text 9, background 5: 9 5 5 5 9 over 5 9 5 9 5; next (5, 0)"
-  pub text-and-background : (g : ℕ) → drawn (left 1 both AB) 5 10 g ≡ 9 ∷ 5 ∷ 5 ∷ 5 ∷ 9 ∷ 5 ∷ 9 ∷ 5 ∷ 9 ∷ 5 ∷ []
-  pub text-and-background-next : Text.next (left 1 both AB) ≡ position 5 0
+  pub text-and-background : (g : ℕ) → drawn 1 (left both AB) 5 10 g ≡ 9 ∷ 5 ∷ 5 ∷ 5 ∷ 9 ∷ 5 ∷ 9 ∷ 5 ∷ 9 ∷ 5 ∷ []
+  pub text-and-background-next : next 1 (left both AB) ≡ position 5 0
   -- "Background 5 only (· untouched): · 5 5 5 · over 5 · 5 · 5"
-  pub background-only : (g : ℕ) → drawn (left 1 (style Unset (Set 5) None) AB) 5 10 g ≡ g ∷ 5 ∷ 5 ∷ 5 ∷ g ∷ 5 ∷ g ∷ 5 ∷ g ∷ 5 ∷ []
+  pub background-only : (g : ℕ) → drawn 1 (left (style Unset (Set 5) None) AB) 5 10 g ≡ g ∷ 5 ∷ 5 ∷ 5 ∷ g ∷ 5 ∷ g ∷ 5 ∷ g ∷ 5 ∷ []
   -- "Neither, own underline 7: row 3, columns 0 to 5; next (6, 0)", on 8 columns and 5 rows
-  pub underline-only : (g : ℕ) → drawn (left 1 underlined AB) 8 40 g ≡ replicate 24 g ++ replicate 6 7 ++ replicate 10 g
-  pub underline-only-next : Text.next (left 1 underlined AB) ≡ position 6 0
+  pub underline-only : (g : ℕ) → drawn 1 (left underlined AB) 8 40 g ≡ replicate 24 g ++ replicate 6 7 ++ replicate 10 g
+  pub underline-only-next : next 1 (left underlined AB) ≡ position 6 0
   -- "`Z` is index 1"
   pub unlisted : glyphIndex (font 1) 0x5A ≡ 1
   -- "replacement 2: nothing drawn, advance 2"
-  pub past-atlas : (g : ℕ) → drawn (left 2 both (0x5A ∷ [])) 5 10 g ≡ replicate 10 g
-  pub past-atlas-next : Text.next (left 2 both (0x5A ∷ [])) ≡ position 2 0
+  pub past-atlas : (g : ℕ) → drawn 2 (left both (0x5A ∷ [])) 5 10 g ≡ replicate 10 g
+  pub past-atlas-next : next 2 (left both (0x5A ∷ [])) ≡ position 2 0
   -- "Empty text at x = 10: right starts at 11, centre at 10"
-  pub empty-right : starts (sample 1 both Right 10 []) ≡ (origin + 11) ∷ []
-  pub empty-centre : starts (sample 1 both Center 10 []) ≡ (origin + 10) ∷ []
+  pub empty-right : starts (sample both Right 10 []) ≡ (origin + 11) ∷ []
+  pub empty-centre : starts (sample both Center 10 []) ≡ (origin + 10) ∷ []
   -- "Right at 10: `AB` from 6, `AB` with 0D from 3"
-  pub right : starts (sample 1 both Right 10 AB) ≡ (origin + 6) ∷ []
-  pub right-with-return : starts (sample 1 both Right 10 (AB ++ (0x0D ∷ []))) ≡ (origin + 3) ∷ []
+  pub right : starts (sample both Right 10 AB) ≡ (origin + 6) ∷ []
+  pub right-with-return : starts (sample both Right 10 (AB ++ (0x0D ∷ []))) ≡ (origin + 3) ∷ []
   -- "Mapping 00 ED 9F BF EE 80 80: U+E000 is 1"
   pub surrogate-gap : Mapping.index (0x00 ∷ 0xED ∷ 0x9F ∷ 0xBF ∷ 0xEE ∷ 0x80 ∷ 0x80 ∷ []) 9 0xE000 ≡ 1
   -- "00 62 61 63: `c` is 0"
