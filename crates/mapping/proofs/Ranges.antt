@@ -1,17 +1,15 @@
 -- Characters are counted and found in a range without listing it. Assumes nothing.
 use mathlib.Core.Path.{_≡_, refl, sym, _∙_, ap}
-use mathlib.Core.Bool.{Bool, true, false, cond, _&&_, true≢false}
-use mathlib.Core.List.{List, [], _∷_, _++_}
+use mathlib.Core.Bool.{Bool, true, false, cond}
+use mathlib.Core.List.{List, _∷_, _++_}
 use Prim.Native.Nat.{ℕ, zero, suc, _+_, _-_, _<_, _≤_}
 use native.Mathlib.Numerals.{add-one}
 use native.Mathlib.Omega.{arith}
 use native.Mathlib.Decide.{decLt}
 use borrow.Author.Tests.{lt-ltb, le-ltb, lt-leb, le-leb, eq-eqb, ne-eqb}
 use lib.ListN.{length}
-use lib.Dec.{ltb, leb, eqb}
 use Rattle.characters.specs.Utf8.{isSurrogate}
-use Rattle.mapping.specs.declared.Found.{Found}
-use Rattle.mapping.specs.declared.Found.the-variants.{At, Nothing}
+use Rattle.mapping.specs.declared.Found.the-variants.{At}
 use Rattle.mapping.specs.Entries.{scalarsBelow}
 use Rattle.mapping.specs.Mapping.{scalarsFrom, range, placeFrom}
 
