@@ -11,7 +11,6 @@ use borrow.Author.Tests.{lt-ltb, le-ltb, eqb-true, ne-eqb, lt-leb}
 use lib.ListN.{length, getD, length-append, List·getD-append}
 use lib.Seq.{getD-append-add, getD-append-seam}
 use lib.Dec.{ltb, eqb, lit<}
-use Rattle.characters.specs.declared.Cursor.{Cursor}
 use Rattle.characters.specs.declared.Step.{Step}
 use Rattle.characters.specs.declared.Step.the-variants.{Character, IllFormed, End}
 use Rattle.characters.specs.Utf8.{leadingOnes, isContinuation, scalar, two, three, four, sequence, stepAt, foldBy, foldAt, charsFrom, wellFormedFrom, chars, wellFormed}
