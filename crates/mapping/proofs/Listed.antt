@@ -1,7 +1,7 @@
 -- What a mapping lists: characters only, each at a position within its list; and what an accepted mapping is. Assumes nothing.
 use mathlib.Core.Path.{_≡_, refl, sym, _∙_, ap}
 use mathlib.Core.Logic.{⊎-elim}
-use mathlib.Core.Bool.{Bool, true, false, cond, true≢false}
+use mathlib.Core.Bool.{Bool, true, false, true≢false}
 use mathlib.Core.List.{List, [], _∷_, List·Memᴰ, List·Memᴰ·head, List·Memᴰ·tail, List·Memᴰ·not-nil, List·Memᴰ·cases-cons, List·Memᴰ·append-cases}
 use Prim.Native.Nat.{ℕ, zero, suc, _+_, _-_, _<_, _≤_}
 use native.Mathlib.Omega.{arith}
@@ -10,7 +10,7 @@ use lib.ListN.{length}
 use lib.Dec.{eqb, leb}
 use Rattle.characters.specs.Refusal.{need}
 use Rattle.characters.specs.Utf8.{isSurrogate, wellFormed}
-use Rattle.characters.proofs.Steps.{IsScalar}
+use Rattle.characters.proofs.Steps.{cond-both, IsScalar}
 use Rattle.characters.proofs.Folds.{chars-scalar}
 use Rattle.mapping.specs.declared.Found.{Found}
 use Rattle.mapping.specs.declared.Found.the-variants.{At, Nothing}
@@ -23,13 +23,11 @@ use Rattle.mapping.proofs.Places.{place-below}
 module _ {ch : ℕ} where
   scalars-scalar : (n a : ℕ) → a + n ≤ 0x110000 → List·Memᴰ ch (scalarsFrom n a) → IsScalar ch
   unfolding scalarsFrom
-  scalars-scalar zero a h m = absurd (List·Memᴰ·not-nil m)
-  scalars-scalar (suc n) a h m = by (isSurrogate a) refl (scalars-scalar n (suc a) (omega arith)) m
-    where
-      by : (t : Bool) → isSurrogate a ≡ t → (List·Memᴰ ch (scalarsFrom n (suc a)) → IsScalar ch)
-          → List·Memᴰ ch (cond t (scalarsFrom n (suc a)) (a ∷ scalarsFrom n (suc a))) → IsScalar ch
-      by true e ih m = ih m
-      by false e ih m = ⊎-elim (λ q. record { no-surrogate = ap isSurrogate q ∙ e; in-range = omega arith }) ih (List·Memᴰ·cases-cons m)
+  scalars-scalar zero a h = λ m. absurd (List·Memᴰ·not-nil m)
+  scalars-scalar (suc n) a h =
+      let rest = scalars-scalar n (suc a) (omega arith) in
+      cond-both (λ l. List·Memᴰ ch l → IsScalar ch) (isSurrogate a) _ _ (λ t. rest) (λ t m.
+      ⊎-elim (λ q. record { no-surrogate = ap isSurrogate q ∙ t; in-range = omega arith }) rest (List·Memᴰ·cases-cons m))
 
   spelled-scalar : (l : List ℕ) → ((x : ℕ) → List·Memᴰ x l → IsScalar x) → List·Memᴰ ch (spelled l) → IsScalar ch
   unfolding spelled
@@ -53,13 +51,11 @@ module _ {ch : ℕ} where
 
 found-member : (k ch : ℕ) (l : List ℕ) → isFound (placeFrom k ch l) ≡ true → List·Memᴰ ch l
 unfolding placeFrom
-found-member k ch [] e = absurd (true≢false (sym e))
-found-member k ch (x ∷ l) e = by (eqb x ch) refl (found-member (suc k) ch l) e
-  where
-    by : (t : Bool) → eqb x ch ≡ t → (isFound (placeFrom (suc k) ch l) ≡ true → List·Memᴰ ch l)
-        → isFound (cond t (At k) (placeFrom (suc k) ch l)) ≡ true → List·Memᴰ ch (x ∷ l)
-    by true q ih f = List·Memᴰ·head (sym (eqb-true x ch q))
-    by false q ih f = List·Memᴰ·tail (ih f)
+found-member k ch [] = λ e. absurd (true≢false (sym e))
+found-member k ch (x ∷ l) =
+    cond-both (λ f. isFound f ≡ true → List·Memᴰ ch (x ∷ l)) (eqb x ch) _ _
+    (λ q e. List·Memᴰ·head (sym (eqb-true x ch q)))
+    (λ q e. List·Memᴰ·tail (found-member (suc k) ch l e))
 
 module _ (mapping : List ℕ) (replacement ch : ℕ) where
   -- "A number that is no character is not"
