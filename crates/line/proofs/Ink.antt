@@ -15,7 +15,7 @@ use Rattle.line.specs.declared.DecorationDimensions.{DecorationDimension
 use Rattle.line.specs.declared.MonoFont.{MonoFont}
 use Rattle.line.specs.declared.MonoTextStyle.{MonoTextStyle}
 use Rattle.line.specs.Line.{Font, characterWidth, characterHeight, spacing, character, glyphs, spaced, advance, decoration, decorations, glyphIndex, string, inkHeight, inkBox}
-use Rattle.line.proofs.Advance.{spaced-advance}
+use Rattle.line.proofs.Advances.{spaced-advance}
 
 module _ (c r : ℕ) where
   decoration-out : (d : DecorationDimensions) (color : OptionalGrey) (width x top grey : ℕ) → (In (rectangle x (top + d .offset) width (d .height)) c r → ⊥) → decoration d color width x top c r grey ≡ grey

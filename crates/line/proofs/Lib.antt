@@ -1,2 +1,3 @@
-pub mod Advance
+pub mod Advances
 pub mod Ink
+pub mod Colors

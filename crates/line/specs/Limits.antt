@@ -24,6 +24,10 @@ pub record PieceLimits (atlas mapping : List ℕ) : Type 0 where
   pub atlas-short : length atlas ≤ 65_536
   pub mapping-short : length (listOf mapping) ≤ 65_536
 
+-- n bytes of text
+pub record LengthLimit (n : ℕ) : Type 0 where
+  pub text-short : n ≤ 65_536
+
 -- n bytes of text at (x, top)
 pub record PlaceLimits (n x top : ℕ) : Type 0 where
   pub text-short : n ≤ 65_536
