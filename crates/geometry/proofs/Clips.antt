@@ -22,6 +22,12 @@ module _ (clip area shown : Rectangle) (e : shown ≡ intersection clip area) wh
   unfolding intersection
   shown-in-area = rw e (omega arith)
 
+  pub shown-past-left : area .left ≤ shown .left
+  shown-past-left = shown-in-area .0
+
+  pub shown-past-top : area .top ≤ shown .top
+  shown-past-top = shown-in-area .1
+
   -- where it is not empty it ends in both
   pub shown-ends : isEmpty shown ≡ false → (shown .left + shown .width ≤ clip .left + clip .width) × (shown .top + shown .height ≤ clip .top + clip .height)
       × (shown .left + shown .width ≤ area .left + area .width) × (shown .top + shown .height ≤ area .top + area .height)

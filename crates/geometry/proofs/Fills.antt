@@ -32,12 +32,6 @@ pub fill-step : (fw fh l t w h k grey : ℕ) (xs frame part : List ℕ)
 fill-step fw fh l t w h k grey xs frame part canvas p less e =
     rows-step fw fh l t w h k 0 (solid grey) (λ i x. grey) xs frame part canvas p less (e ∙ sym (replicate-mapIndexed grey 0 _)) (λ i x u. refl)
 
--- and ends with the rectangle filled
-pub fill-end : (fw l t w h k grey : ℕ) (xs frame : List ℕ) → RowsPainted fw l t w h k (solid grey) xs frame → h ≤ k
-    → frame ≡ paint fw (filled (onFrame l t w h) (Set grey)) xs
-unfolding filled
-fill-end fw l t w h k grey xs frame p past = let e : k ≡ h = omega arith in rw e at (p .painted)
-
 -- rows as wide as the frame are one part of it
 module _ (fw fh n l t w h : ℕ) (canvas : Canvas fw fh n (onFrame l t w h)) where
   pub rows-room : (t * fw + h * fw ≤ n) × (n ≤ 262144)

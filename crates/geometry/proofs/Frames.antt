@@ -159,3 +159,6 @@ rows-step fw fh l t w h k s f g xs frame part canvas p less ep agree =
     ∙ paint-over fw (within (onFrame l t w k) f) (within (onFrame l (t + k) w 1) f) xs
     ∙ paint-same fw _ (within (onFrame l t w (k + 1)) f) xs (rows-next l t w k f) in
     record { painted = q; reach = omega arith; size = ap length q ∙ length-paint fw _ xs }
+
+pub rows-end : (fw l t w h k : ℕ) (f : Layer) (xs frame : List ℕ) → RowsPainted fw l t w h k f xs frame → h ≤ k → frame ≡ paint fw (within (onFrame l t w h) f) xs
+rows-end fw l t w h k f xs frame p past = let e : k ≡ h = omega arith in rw e at (p .painted)
