@@ -26,6 +26,14 @@ pub walked : MonoFont → ℕ → List ℕ → ℕ → ℕ
 walked m gap [] x = x
 walked m gap (i ∷ is) x = walked m (spacing m) is (x + gap + characterWidth m)
 
+pub walked-end : (m : MonoFont) (gap x : ℕ) → walked m gap [] x ≡ x
+unfolding walked
+walked-end m gap x = refl
+
+pub walked-next : (m : MonoFont) (gap i : ℕ) (is : List ℕ) (x : ℕ) → walked m gap (i ∷ is) x ≡ walked m (spacing m) is (x + gap + characterWidth m)
+unfolding walked
+walked-next m gap i is x = refl
+
 walked-more : (m : MonoFont) (i : ℕ) (is : List ℕ) (gap x : ℕ) → walked m gap (i ∷ is) x ≡ x + gap + spaced m (suc (length is))
 unfolding walked spaced
 walked-more m i [] gap x = omega arith
@@ -110,6 +118,9 @@ module _ (m : MonoFont) (s : MonoTextStyle) (n : ℕ) where
       go : (t : Bool) → cond t (spaced m n) (n * (characterWidth m + spacing m)) ≤ n * (characterWidth m + spacing m)
       go true = omega (arith, spaced-minus m n)
       go false = omega arith
+
+  pub next-fits : (text : List ℕ) (x r : ℕ) → FontLimits m → length text ≤ 65_536 → n ≡ length (chars text) → x ≤ 8_388_608 → r ≡ advance m s n → Fits w32 (x + r)
+  next-fits text x r limits short e near d = omega (arith, width-small m limits text short n e, advance-width)
 
   module _ (t : Bool) (e : t ≡ isPainted s) (width : ℕ) (w : width ≡ n * (characterWidth m + spacing m)) where
     pub advance-painted : t ≡ true → (r : ℕ) → r ≡ width - spacing m → r ≡ advance m s n
