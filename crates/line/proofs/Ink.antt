@@ -15,7 +15,7 @@ use Rattle.line.specs.declared.DecorationDimensions.{DecorationDimension
 use Rattle.line.specs.declared.MonoFont.{MonoFont}
 use Rattle.line.specs.declared.MonoTextStyle.{MonoTextStyle}
 use Rattle.line.specs.Line.{Font, characterWidth, characterHeight, spacing, character, glyphs, spaced, advance, decoration, decorations, glyphIndex, string, inkHeight, inkBox}
-use Rattle.line.proofs.Advance.{spaced-advance}
+use Rattle.line.proofs.Advances.{spaced-advance}
 
 module _ (c r : ℕ) where
   decoration-out : (d : DecorationDimensions) (color : OptionalGrey) (width x top grey : ℕ) → (In (rectangle x (top + d .offset) width (d .height)) c r → ⊥) → decoration d color width x top c r grey ≡ grey
@@ -23,12 +23,12 @@ module _ (c r : ℕ) where
   decoration-out d color width x top grey o = filled-out (rectangle x (top + d .offset) width (d .height)) color c r grey o
 
   -- a gap and a glyph paint nothing outside the gap and the cell
-  character-out : (f : Font) (s : MonoTextStyle) (gap i x top grey : ℕ) → (In (rectangle x top (gap + characterWidth (f .mono)) (characterHeight (f .mono))) c r → ⊥) → character f s gap i x top c r grey ≡ grey
+  pub character-out : (f : Font) (s : MonoTextStyle) (gap i x top grey : ℕ) → (In (rectangle x top (gap + characterWidth (f .mono)) (characterHeight (f .mono))) c r → ⊥) → character f s gap i x top c r grey ≡ grey
   unfolding character
   character-out f s gap i x top grey o =
       glyph-out (f .atlas) (f .mono .atlas) _ _ i (x + gap) top c r _ (λ h. o (omega arith)) ∙ filled-out (rectangle x top gap (characterHeight (f .mono))) _ c r grey (λ h. o (omega arith))
 
-  glyphs-out : (f : Font) (s : MonoTextStyle) (gap : ℕ) (is : List ℕ) (x top grey : ℕ) → (In (rectangle x top (gap + spaced (f .mono) (length is)) (characterHeight (f .mono))) c r → ⊥) → glyphs f s gap is x top c r grey ≡ grey
+  pub glyphs-out : (f : Font) (s : MonoTextStyle) (gap : ℕ) (is : List ℕ) (x top grey : ℕ) → (In (rectangle x top (gap + spaced (f .mono) (length is)) (characterHeight (f .mono))) c r → ⊥) → glyphs f s gap is x top c r grey ≡ grey
   unfolding glyphs spaced
   glyphs-out f s gap [] x top grey o = refl
   glyphs-out f s gap (i ∷ []) x top grey o = character-out f s gap i x top grey (λ h. o (omega arith))
