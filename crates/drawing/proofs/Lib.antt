@@ -1,3 +1,4 @@
 pub mod Exact
 pub mod Damage
 pub mod Repaint
+pub mod Painting
