@@ -17,7 +17,7 @@ pub struct Atlas {
 }
 
 // Where a glyph's cell stands in its atlas.
-pub enum Corner {
+enum Corner {
     // its first column and row
     At(usize, usize),
     // nowhere: the glyph is not drawn
