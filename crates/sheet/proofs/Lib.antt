@@ -4,8 +4,6 @@ pub mod LaidOut
 pub mod Acceptance
 pub mod Loops
 pub mod Outcomes
-pub mod Codes
-pub mod Readings
 pub mod Bytes
 pub mod Stores
 pub mod Allowed

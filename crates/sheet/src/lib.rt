@@ -9,19 +9,19 @@ use fields::part;
 use fields::u8_at;
 use fields::u16_at;
 use fields::u32_at;
+use limits::font_limits;
 use limits::header_refusal;
 use limits::item_limits;
 use pieces::is_laid_out;
 ghost use mathlib.Core.Path.{_≡_};
 ghost use Prim.Native.Nat.{_+_, _≤_};
 ghost use lib.ListN.{length};
-ghost use Rattle.sheet.specs.Check.{checkHeader, itemNumbers, zeros, checkItem, checkItems};
-ghost use Rattle.sheet.specs.Accepted.{ItemIn, LaidOut};
+ghost use Rattle.sheet.specs.Check.{checkHeader, checkFont, checkFonts, itemNumbers, zeros, checkItem, checkItems, check};
+ghost use Rattle.sheet.specs.Accepted.{FontIn, ItemIn, LaidOut};
 
 pub mod fields;
 pub mod limits;
 pub mod pieces;
-pub mod records;
 
 // Where the pieces of some records end, or that one of them is out of place.
 pub enum Reach {
@@ -46,6 +46,43 @@ fn check_header(sheet: &[u8]) -> u32
         font_count(sheet),
         item_count(sheet),
     )
+}
+
+// Refusals 6 to 8 of the font whose record stands at `o`.
+fn check_font(sheet: &[u8], o: usize) -> u32
+    requires { ⌜ FontIn (now sheet) o ⌝ }
+    ensures { λ r. ⌜ r ≡ checkFont (now (sheet .entry)) o ⌝ }
+{
+    let n = font_limits(
+        sheet[o + 18],
+        sheet[o + 19],
+        sheet[o + 20],
+        u16_at(sheet, o + 16),
+        u16_at(sheet, o + 26),
+    );
+    if n != 0 {
+        return n;
+    }
+    let from = u32_at(sheet, o + 8);
+    let size = u16_at(sheet, o + 12);
+    mapping::check_mapping(part(sheet, from, size))
+}
+
+// Refusals 6 to 8 of the fonts, by number.
+fn check_fonts(sheet: &[u8]) -> u32
+    requires { ⌜ LaidOut (now sheet) ⌝ }
+    ensures { λ r. ⌜ r ≡ checkFonts (now (sheet .entry)) ⌝ }
+{
+    let fonts = font_count(sheet);
+    let mut k: u32 = 0;
+    while k < fonts {
+        let n = check_font(sheet, font_offset(k));
+        if n != 0 {
+            return n;
+        }
+        k += 1;
+    }
+    0
 }
 
 // Refusal 9 of the item whose record stands at `o`, but for its slot's tail.
@@ -117,4 +154,22 @@ fn check_items(sheet: &[u8]) -> u32
         k += 1;
     }
     0
+}
+
+// The number of the first refusal, or 0 for a sheet that is accepted.
+pub fn check(sheet: &[u8]) -> u32
+    ensures { λ r. ⌜ r ≡ check (now (sheet .entry)) ⌝ }
+{
+    let n = check_header(sheet);
+    if n != 0 {
+        return n;
+    }
+    if is_laid_out(sheet) {
+        let f = check_fonts(sheet);
+        if f != 0 {
+            return f;
+        }
+        return check_items(sheet);
+    }
+    5
 }

@@ -1,6 +1,6 @@
 -- The numbers are those that the definition reads.
 use borrow.Author.Needs.{needs}
-use Rattle.sheet.proofs.Readings.{item-numbers-are}
+use Rattle.sheet.proofs.Outcomes.{item-numbers-are}
 use Rattle.sheet.proofs.item_numbers.Statement.{statement}
 use Rattle.sheet.proofs.item_numbers.Tie as tie
 
