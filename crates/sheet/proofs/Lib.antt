@@ -1,6 +1,9 @@
 pub mod Refusals
-pub mod Pieces
+pub mod Modes
+pub mod LaidOut
 pub mod Acceptance
+pub mod Loops
+pub mod Outcomes
 pub mod Bytes
 pub mod Stores
 pub mod Allowed

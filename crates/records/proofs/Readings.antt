@@ -1,0 +1,38 @@
+-- Records read by value: where an accepted sheet's pieces lie, and what is read is what the definitions read. Assumes nothing.
+use Prim.Native.Nat.{ℕ, _+_, _≤_}
+use mathlib.Core.Path.{_≡_}
+use mathlib.Core.List.{List}
+use lib.ListN.{length, getD}
+use native.Mathlib.Omega.{arith}
+use Rattle.geometry.specs.declared.OptionalGrey.{OptionalGrey}
+use Rattle.line.specs.declared.DecorationColor.{DecorationColor}
+use Rattle.line.specs.declared.MonoTextStyle.{MonoTextStyle}
+use Rattle.sheet.specs.Fields
+use Rattle.sheet.specs.Fields.{u16, u32, fontAt, itemAt}
+use Rattle.sheet.specs.Requires.{FontListed, ItemListed}
+use Rattle.sheet.specs.Records.{optionalGrey, decorationColor, monoTextStyle}
+
+-- ---- pieces lie in the file
+
+module _ (b : List ℕ) (n o from size : ℕ) where
+  pub atlas-in : FontListed b n → o ≡ fontAt n → from ≡ u32 b o → size ≡ u32 b (o + 4) → from + size ≤ length b
+  atlas-in g e f s = rw (s, f, e) (g .accepted .laid-out .font-in n (g .listed) .atlas-in)
+
+  pub mapping-in : FontListed b n → o ≡ fontAt n → from ≡ u32 b (o + 8) → size ≡ u16 b (o + 12) → from + size ≤ length b
+  mapping-in g e f s = rw (s, f, e) (g .accepted .laid-out .font-in n (g .listed) .mapping-in)
+
+  pub text-in : ItemListed b n → o ≡ itemAt b n → from ≡ u32 b (o + 4) → size ≡ u16 b (o + 10) → from + size ≤ length b
+  text-in g e f s = rw (s, f, e) (omega (arith, g .accepted .laid-out .item-in n (g .listed), g .accepted .item-fits n (g .listed)))
+
+-- an item's font is listed
+pub font-listed : (b : List ℕ) (n f : ℕ) → ItemListed b n → f ≡ Fields.fontNumber b (itemAt b n) → FontListed b f
+font-listed b n f g e = record { accepted = g .accepted; listed = rw e (g .accepted .item-fits n (g .listed) .font-there) }
+
+-- ---- what is read
+
+pub style-is : (b : List ℕ) (n o : ℕ) (text background : OptionalGrey) (underline strikethrough : DecorationColor) → o ≡ itemAt b n
+    → text ≡ optionalGrey (getD b (o + 13) 0) (getD b (o + 14) 0) → background ≡ optionalGrey (getD b (o + 15) 0) (getD b (o + 16) 0)
+    → underline ≡ decorationColor (getD b (o + 17) 0) (getD b (o + 18) 0) → strikethrough ≡ decorationColor (getD b (o + 19) 0) (getD b (o + 20) 0)
+    → _≡_ {A = MonoTextStyle} (record { «text_color» = text; «background_color» = background; «underline_color» = underline; «strikethrough_color» = strikethrough }) (monoTextStyle b (itemAt b n))
+unfolding monoTextStyle
+style-is b n o text background underline strikethrough e et eb eu es = rw (et, eb, eu, es, e)
