@@ -15,15 +15,15 @@ use Rattle.station.specs.Room.{HeaderFits, PageFits}
 
 -- ---- digits
 
-pub digits-one : (n a : ℕ) → n < 10 → a ≡ 0x30 + n % 10 → digits n ≡ a ∷ []
+digits-one : (n a : ℕ) → n < 10 → a ≡ 0x30 + n % 10 → digits n ≡ a ∷ []
 unfolding digits
 digits-one n a h ea = let e : n % 10 ≡ n = omega arith in rw (lt-ltb n 10 h, ea, e)
 
-pub digits-two : (n a b : ℕ) → 10 ≤ n → n < 100 → a ≡ 0x30 + n / 10 % 10 → b ≡ 0x30 + n % 10 → digits n ≡ a ∷ b ∷ []
+digits-two : (n a b : ℕ) → 10 ≤ n → n < 100 → a ≡ 0x30 + n / 10 % 10 → b ≡ 0x30 + n % 10 → digits n ≡ a ∷ b ∷ []
 unfolding digits
 digits-two n a b g h ea eb = let e : n / 10 % 10 ≡ n / 10 = omega arith in rw (le-ltb n 10 g, lt-ltb n 100 h, ea, eb, e)
 
-pub digits-three : (n a b c : ℕ) → 100 ≤ n → a ≡ 0x30 + n / 100 → b ≡ 0x30 + n / 10 % 10 → c ≡ 0x30 + n % 10 → digits n ≡ a ∷ b ∷ c ∷ []
+digits-three : (n a b c : ℕ) → 100 ≤ n → a ≡ 0x30 + n / 100 → b ≡ 0x30 + n / 10 % 10 → c ≡ 0x30 + n % 10 → digits n ≡ a ∷ b ∷ c ∷ []
 unfolding digits
 digits-three n a b c h ea eb ec = let g : 10 ≤ n = omega arith in rw (le-ltb n 10 g, le-ltb n 100 h, ea, eb, ec)
 
@@ -46,6 +46,9 @@ length-digits-le n =
 pub length-page : (w h : ℕ) (frame : List ℕ) → length (pageHeader w h ++ frame) ≡ 9 + length (digits w) + length (digits h) + length frame
 unfolding pageHeader
 length-page w h frame = simp length-append (omega arith)
+
+pub length-page-le : (w h : ℕ) (frame : List ℕ) → length (pageHeader w h ++ frame) ≤ 15 + length frame
+length-page-le w h frame = omega (arith, length-page w h frame, length-digits-le w, length-digits-le h)
 
 pub header-fits : (w h : ℕ) (frame output : List ℕ) → PageFits w h frame output → HeaderFits w h output
 header-fits w h frame output p = record { width = p .width; height = p .height; room = omega (arith, length-page w h frame) }
