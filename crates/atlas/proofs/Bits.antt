@@ -1,9 +1,9 @@
 -- Laws of an atlas's bits: where the bytes of a pixel stand, and which bits of them are the next eight pixels. Assumes nothing.
-use Prim.Native.Nat.{ℕ, zero, suc, _+_, _-_, _*_, _/_, _%_, _^_, _≤_, _<_}
-use native.Mathlib.Nat.{add-zero, mul-le-mul-right, div-mul-le-self, div-div-eq-div-mul, add-mul-div-right, add-mul-mod-self-right}
+use Prim.Native.Nat.{ℕ, _+_, _-_, _*_, _/_, _%_, _^_, _≤_, _<_}
+use native.Mathlib.Nat.{add-zero, mul-le-mul-right, div-mul-le-self, add-mul-div-right, add-mul-mod-self-right}
 use native.Mathlib.Decide.{decLt}
 use native.Mathlib.Omega.{arith}
-use mathlib.Core.Path.{_≡_, refl, sym, ap, _∙_}
+use mathlib.Core.Path.{_≡_, sym, ap, _∙_}
 use mathlib.Core.Bool.{Bool, true, false, cond}
 use mathlib.Core.List.{List}
 use mathlib.Core.Logic.{_⊎_, inl, inr, ⊎-elim}
@@ -21,6 +21,7 @@ use Rattle.geometry.proofs.Rows.{FirstPainted, row-part, row-end}
 use Rattle.atlas.specs.Atlas.{isOn}
 use Rattle.atlas.specs.Row.{blend, imageRow, bitsAt, bitRow, SubImage}
 
+-- the byte of pixel (x, y), and the next byte of its row, lie in the atlas
 module _ (stride x y n : ℕ) (s : SubImage stride x y 1 1 n) (b : n < 2 ^ 64) where
   room : (x / 8 < stride) × (y * stride + stride ≤ n)
   room =
@@ -42,6 +43,7 @@ module _ (stride x y n : ℕ) (s : SubImage stride x y 1 1 n) (b : n < 2 ^ 64) w
   pub next-in : x / 8 + 1 < stride → y * stride + x / 8 + 1 < n
   next-in h = omega (arith, room)
 
+-- `bitsAt` from both bytes, or from the last of a row
 module _ (bytes : List ℕ) (stride x y high : ℕ) (e : high ≡ getD bytes (y * stride + x / 8) 0) where
   pub two-bytes : (low : ℕ) → low ≡ getD bytes (y * stride + x / 8 + 1) 0 → x / 8 + 1 < stride → (high * 256 + low) / 2 ^ (8 - x % 8) ≡ bitsAt bytes stride x y
   unfolding bitsAt
@@ -53,8 +55,7 @@ module _ (bytes : List ℕ) (stride x y high : ℕ) (e : high ≡ getD bytes (y 
 
 -- the bits of the upper of two bytes, and of the lower
 upper : (high low d : ℕ) → low < 256 → (high * 256 + low) / 2 ^ (8 + d) ≡ high / 2 ^ d
-upper high low d h =
-    ap (λ (n : ℕ). (high * 256 + low) / n) (pow-add 2 8 d) ∙ sym (div-div-eq-div-mul (high * 256 + low) (2 ^ 8) (2 ^ d)) ∙ ap (λ (n : ℕ). n / 2 ^ d) (digits-div high h)
+upper high low d h = sym (shr-shr (high * 256 + low) 8 d) ∙ ap (λ (n : ℕ). n / 2 ^ d) (digits-div high h)
 
 lower : (high low d : ℕ) → d < 8 → (high * 256 + low) / 2 ^ d % 2 ≡ low / 2 ^ d % 2
 lower high low d h =
@@ -72,20 +73,18 @@ lt-or-le a b = go (decLt a b)
 
 -- two bytes from pixel x on, shifted so that bit 7 is pixel x
 module _ (high low x : ℕ) (small : low < 256) where
-  both : (i : ℕ) → (high * 256 + low) / 2 ^ (8 - x % 8) / 2 ^ (7 - i) ≡ (high * 256 + low) / 2 ^ ((8 - x % 8) + (7 - i))
-  both i = shr-shr (high * 256 + low) (8 - x % 8) (7 - i)
-
   upper-bit : (i : ℕ) → i < 8 → x % 8 + i < 8 → (high * 256 + low) / 2 ^ (8 - x % 8) / 2 ^ (7 - i) % 2 ≡ high / 2 ^ (7 - (x + i) % 8) % 2
   upper-bit i h u =
       let p : (8 - x % 8) + (7 - i) ≡ 8 + (7 - (x + i) % 8) = omega arith in
-      rw (both i, p, upper high low (7 - (x + i) % 8) small)
+      rw (shr-shr (high * 256 + low) (8 - x % 8) (7 - i), p, upper high low (7 - (x + i) % 8) small)
 
   lower-bit : (i : ℕ) → i < 8 → 8 ≤ x % 8 + i → (high * 256 + low) / 2 ^ (8 - x % 8) / 2 ^ (7 - i) % 2 ≡ low / 2 ^ (7 - (x + i) % 8) % 2
   lower-bit i h u =
       let p : (8 - x % 8) + (7 - i) ≡ 7 - (x + i) % 8 = omega arith in
-      rw (both i, p, lower high low (7 - (x + i) % 8) (omega arith))
+      rw (shr-shr (high * 256 + low) (8 - x % 8) (7 - i), p, lower high low (7 - (x + i) % 8) (omega arith))
 
 module _ (bytes : List ℕ) (small : (k : ℕ) → Fits w8 (getD bytes k 0)) (stride x y : ℕ) where
+  -- the byte after pixel x's in the row, or 0
   next : ℕ
   next = cond (ltb (x / 8 + 1) stride) (getD bytes (y * stride + x / 8 + 1) 0) 0
 

@@ -1,8 +1,8 @@
 -- Laws of part of an atlas drawn row by row, and of a glyph that a clip shows. Assumes nothing.
-use Prim.Native.Nat.{ℕ, _+_, _-_, _*_, _/_, _^_, _≤_, _<_}
+use Prim.Native.Nat.{ℕ, _+_, _-_, _*_, _^_, _≤_, _<_}
 use native.Mathlib.Nat.{div-le-self, add-sub-cancel-left}
 use native.Mathlib.Omega.{arith}
-use mathlib.Core.Path.{_≡_, refl, sym, ap, _∙_}
+use mathlib.Core.Path.{_≡_}
 use mathlib.Core.List.{List}
 use lib.ListN.{length, take, drop, length-drop}
 use lib.Seq.{length-take-le}
@@ -10,9 +10,9 @@ use mir.Syntax.{w64}
 use mir.Val.{Fits}
 use borrow.Rule.Slice.PartMut.{putMid}
 use Rattle.geometry.specs.declared.OptionalGrey.{OptionalGrey}
-use Rattle.geometry.specs.Layer.{origin, Layer, within, mapIndexed, paint}
+use Rattle.geometry.specs.Layer.{origin, Layer, mapIndexed}
 use Rattle.geometry.specs.Canvas.{Canvas, onFrame}
-use Rattle.geometry.proofs.Frames.{RowsPainted, row-end-in, rows-step, rows-end}
+use Rattle.geometry.proofs.Frames.{RowsPainted, row-end-in, rows-step}
 use Rattle.atlas.specs.Atlas.{image}
 use Rattle.atlas.specs.Row.{imageRow, SubImage}
 

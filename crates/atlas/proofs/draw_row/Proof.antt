@@ -1,6 +1,5 @@
 -- `draw_row` meets its contract: at pixel i the first i pixels are drawn and the others as they were. Assumes nothing.
 use Prim.Native.Nat.{_-_}
-use native.Mathlib.Omega.{arith}
 use lib.ListN.{length}
 use borrow.Author.Needs.{needs}
 use Rattle.geometry.proofs.Rows.{FirstPainted, row-start, row-end}
