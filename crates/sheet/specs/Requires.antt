@@ -1,10 +1,10 @@
 -- What functions on a sheet's bytes require, each as one record. Assumes nothing.
-use Prim.Native.Nat.{ℕ, _≤_, _<_}
+use Prim.Native.Nat.{ℕ, _+_, _≤_, _<_}
 use mathlib.Core.Path.{_≡_}
 use mathlib.Core.List.{List}
 use lib.ListN.{length}
-use Rattle.sheet.specs.Fields.{fontCount, itemCount, piecesAt}
-use Rattle.sheet.specs.Accepted.{Headed, Accepted}
+use Rattle.sheet.specs.Fields.{fontCount, itemCount, piecesAt, slotSize}
+use Rattle.sheet.specs.Accepted.{Headed, ItemIn, Accepted}
 use Rattle.sheet.specs.Edits.{Edit, refusal}
 
 -- the header's limits hold, and the records lie in the file
@@ -26,3 +26,13 @@ pub record ItemListed (b : List ℕ) (n : ℕ) : Type 0 where
 pub record EditAllowed (b : List ℕ) (e : Edit) : Type 0 where
   pub accepted : Accepted b
   pub allowed : refusal b e ≡ 0
+
+-- a text fits the slot of the item whose record stands at o
+pub record TextFits (b : List ℕ) (o : ℕ) (t : List ℕ) : Type 0 where
+  pub item-in : ItemIn b o
+  pub short : length t ≤ slotSize b o
+
+-- a style fits the item whose record stands at o
+pub record StyleFits (b : List ℕ) (o : ℕ) (t : List ℕ) : Type 0 where
+  pub record-in : o + 28 ≤ length b
+  pub eight : length t ≡ 8
