@@ -1,4 +1,4 @@
 pub mod Exact
 pub mod Damage
-pub mod Repaint
+pub mod Repainting
 pub mod Painting
