@@ -1,3 +1,4 @@
+// A text: its lines, where each stands, its drawing and its boxes.
 use geometry::Point;
 use geometry::Rectangle;
 use geometry::numbers::minus;
@@ -15,7 +16,7 @@ ghost use Rattle.line.specs.Line.{fontOf, measuredWidth};
 ghost use Rattle.line.specs.Limits.{FontLimits};
 ghost use Rattle.text.specs.Text.{textOf, withoutReturn, alignedStart, lineHeight, placeLine, lineLayer, layer, lineNext, next, boundingBox, inkBox};
 ghost use Rattle.text.specs.Lines.{lineLength, lineFrom, either, lineCorner, lineBox, linesBox};
-ghost use Rattle.text.specs.Limits.{TextLimits, HeightLimit, LineLimits};
+ghost use Rattle.text.specs.Limits.{TextLimits, HeightLimit, StartLimits, LineLimits};
 
 // Where the lines of a text stand beside its x.
 pub enum Alignment {
@@ -92,7 +93,7 @@ fn without_return(row: &[u8]) -> &[u8]
 // Where a line starts beside x; only an alignment that needs the line's width measures it.
 fn aligned_start(row: &[u8], font: MonoFont, alignment: Alignment, x: u32) -> u32
     requires { ⌜ FontLimits font ⌝ }
-    requires { ⌜ LineLimits (length (now row)) x 0 ⌝ }
+    requires { ⌜ StartLimits (length (now row)) x ⌝ }
     ensures { λ r. ⌜ r ≡ alignedStart alignment x (measuredWidth font (length (chars (now (row .entry))))) ⌝ }
 {
     match alignment {

@@ -1,8 +1,8 @@
+-- `lines_box` meets its contract: at each line the boxes of the lines before it are joined, and those from it on make up the rest. Assumes nothing.
 use Prim.Native.Nat.{_-_}
 use lib.ListN.{length}
 use borrow.Author.Needs.{needs}
 use Rattle.text.specs.Lines.{either}
-use Rattle.text.proofs.Feeds.{end-of-line, line-less}
 use Rattle.text.proofs.Places.{line-limits, at-fits}
 use Rattle.text.proofs.Boxes.{BoxesJoined, boxes-start, boxes-last, boxes-step, box-ends}
 use Rattle.text.proofs.lines_box.Statement.{statement}
