@@ -3,13 +3,16 @@ use Prim.Native.Nat.{ℕ, zero, suc, _+_, _/_, _%_, _<_}
 use native.Mathlib.Nat.{add-zero, add-suc, suc-add, zero-add, le-of-suc-le-suc, not-suc-le-zero}
 use native.Mathlib.Omega.{arith}
 use mathlib.Core.Path.{_≡_, refl, sym, ap, _∙_}
+use mathlib.Core.Bool.{cond}
 use mathlib.Core.List.{List, [], _∷_}
+use mathlib.Core.Logic.{⊎-elim}
 use lib.ListN.{length, getD}
 use lib.Seq.{ext-getD}
 use Rattle.geometry.specs.declared.Rectangle.{Rectangle}
 use Rattle.geometry.specs.declared.OptionalGrey.{OptionalGrey}
+use Rattle.geometry.specs.Rectangle.{covers, intersection}
 use Rattle.geometry.specs.Layer.{origin, Layer, over, within, colored, filled, mapIndexed, paint}
-use Rattle.geometry.proofs.Rectangles.{In, in-covers, out-covers}
+use Rattle.geometry.proofs.Rectangles.{In, in-covers, out-covers, in-or-out, intersection-in, intersection-both}
 
 module _ (a : Rectangle) (f : Layer) (c r grey : ℕ) where
   pub within-in : In a c r → within a f c r grey ≡ f c r grey
@@ -17,6 +20,23 @@ module _ (a : Rectangle) (f : Layer) (c r grey : ℕ) where
 
   pub within-out : (In a c r → ⊥) → within a f c r grey ≡ grey
   within-out o = rw (out-covers a c r o)
+
+-- layers that agree, in a rectangle
+pub within-same : (a : Rectangle) (f g : Layer) → ((c r grey : ℕ) → f c r grey ≡ g c r grey) → (c r grey : ℕ) → within a f c r grey ≡ within a g c r grey
+within-same a f g h c r grey = ap (λ (v : ℕ). cond (covers a c r) v grey) (h c r grey)
+
+-- a layer that changes nothing changes nothing in a rectangle
+pub within-none : (a : Rectangle) (f : Layer) → ((c r grey : ℕ) → f c r grey ≡ grey) → (c r grey : ℕ) → within a f c r grey ≡ grey
+within-none a f h c r grey = ⊎-elim (λ i. within-in a f c r grey i ∙ h c r grey) (λ o. within-out a f c r grey o) (in-or-out a c r)
+
+-- a layer in two rectangles is that layer in what they share
+pub within-intersection : (a b : Rectangle) (f : Layer) (c r grey : ℕ) → within a (within b f) c r grey ≡ within (intersection a b) f c r grey
+within-intersection a b f c r grey = ⊎-elim
+    (λ i. let both = intersection-both c r a b i in within-in a (within b f) c r grey (both .0) ∙ within-in b f c r grey (both .1) ∙ sym (within-in _ f c r grey i))
+    (λ o. ⊎-elim
+    (λ i. within-in a (within b f) c r grey i ∙ within-out b f c r grey (λ j. o (intersection-in c r a b i j)))
+    (λ p. within-out a (within b f) c r grey p) (in-or-out a c r) ∙ sym (within-out _ f c r grey o))
+    (in-or-out (intersection a b) c r)
 
 pub filled-out : (a : Rectangle) (color : OptionalGrey) (c r grey : ℕ) → (In a c r → ⊥) → filled a color c r grey ≡ grey
 unfolding filled
@@ -64,6 +84,10 @@ pub paint-agree : (fw n : ℕ) (f g : Layer) (xs ys : List ℕ) → length xs �
     → paint fw f xs ≡ paint fw g ys
 paint-agree fw n f g xs ys ex ey h = ext-getD 0 (paint fw f xs) (paint fw g ys) (length-paint fw f xs ∙ ex ∙ sym (length-paint fw g ys ∙ ey))
     (λ k l. let b : k < n = omega (arith, length-paint fw f xs) in paint-at fw f xs k (omega arith) ∙ h k b ∙ sym (paint-at fw g ys k (omega arith)))
+
+-- a layer that changes no pixel of the frame
+pub paint-none : (fw : ℕ) (f : Layer) (frame : List ℕ) → ((c r grey : ℕ) → f c r grey ≡ grey) → paint fw f frame ≡ frame
+paint-none fw f frame h = ext-getD 0 (paint fw f frame) frame (length-paint fw f frame) (λ k l. paint-at fw f frame k (omega (arith, length-paint fw f frame)) ∙ h _ _ _)
 
 pub paint-same : (fw : ℕ) (f g : Layer) (frame : List ℕ) → ((c r grey : ℕ) → f c r grey ≡ g c r grey) → paint fw f frame ≡ paint fw g frame
 paint-same fw f g frame h = paint-agree fw (length frame) f g frame frame refl refl (λ k l. h (origin + k % fw) (origin + k / fw) (getD frame k 0))

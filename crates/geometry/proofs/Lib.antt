@@ -1,2 +1,6 @@
 pub mod Rectangles
 pub mod Layers
+pub mod Rows
+pub mod Frames
+pub mod Clips
+pub mod Fills

@@ -1,14 +1,14 @@
 -- Laws of rectangles: `covers` as a fact, and what joins and intersections hold. Assumes nothing.
 use Prim.Native.Nat.{ℕ, _+_, _-_, _≤_, _<_, min, max}
 use native.Mathlib.Omega.{arith}
-use mathlib.Core.Path.{_≡_, refl, ap}
-use mathlib.Core.Bool.{Bool, true, false, cond, _&&_}
+use mathlib.Core.Path.{_≡_, refl, _∙_}
+use mathlib.Core.Bool.{Bool, true, false, cond, _&&_, _||_}
 use mathlib.Core.List.{List, [], _∷_}
 use mathlib.Core.Logic.{_⊎_, inl, inr}
-use lib.Dec.{leb, ltb, eqb}
-use borrow.Author.Tests.{leb-true, ltb-true, le-leb, lt-ltb, ne-eqb}
+use lib.Dec.{eqb}
+use borrow.Author.Tests.{leb-true, ltb-true, le-leb, lt-ltb, ne-eqb, eqb-false}
 use Rattle.geometry.specs.declared.Rectangle.{Rectangle}
-use Rattle.geometry.specs.Rectangle.{covers, isEmpty, envelope, join, joins, intersection}
+use Rattle.geometry.specs.Rectangle.{EndsFit, covers, isEmpty, envelope, join, joins, intersection}
 
 -- a place in a rectangle
 pub record In (a : Rectangle) (c r : ℕ) : Type 0 where
@@ -20,6 +20,10 @@ pub record In (a : Rectangle) (c r : ℕ) : Type 0 where
 pub and-true : (a b : Bool) → (a && b) ≡ true → (a ≡ true) × (b ≡ true)
 and-true true b h = (refl, h)
 and-true false b h = (h, cc)
+
+or-false : (a b : Bool) → (a || b) ≡ false → (a ≡ false) × (b ≡ false)
+or-false true b h = (h, cc)
+or-false false b h = (refl, h)
 
 module _ (a : Rectangle) (c r : ℕ) where
   pub covers-in : covers a c r ≡ true → In a c r
@@ -56,6 +60,12 @@ module _ (a : Rectangle) (c r : ℕ) where
   unfolding isEmpty
   in-not-empty h = rw (ne-eqb (a .width) 0 (λ e. omega arith), ne-eqb (a .height) 0 (λ e. omega arith))
 
+pub not-empty : (a : Rectangle) → isEmpty a ≡ false → (0 < a .width) × (0 < a .height)
+unfolding isEmpty
+not-empty a h =
+    let n = or-false (eqb (a .width) 0) (eqb (a .height) 0) h in
+    omega (arith, eqb-false (a .width) 0 (n .0), eqb-false (a .height) 0 (n .1))
+
 -- a place in either of two rectangles is in their join
 module _ (c r : ℕ) where
   pub join-left : (a b : Rectangle) → In a c r → In (join a b) c r
@@ -86,3 +96,49 @@ module _ (c r : ℕ) where
   pub intersection-both : (a b : Rectangle) → In (intersection a b) c r → (In a c r) × (In b c r)
   unfolding intersection
   intersection-both a b h = omega arith
+
+-- of the n numbers from a on, those from s on
+past : (a n s : ℕ) → a ≤ s → n - (s - a) ≡ a + n - s
+past a n s h = omega arith
+
+min-minus : (a b s : ℕ) → min (a - s) (b - s) ≡ min a b - s
+min-minus a b s = omega arith
+
+-- how many numbers two runs share, counted without a sum
+pub shared-run : (a n b m from l r shared : ℕ) → from ≡ max a b → l ≡ n - (from - a) → r ≡ m - (from - b) → shared ≡ min l r
+    → shared ≡ min (a + n) (b + m) - max a b
+shared-run a n b m from l r shared ef el er es =
+    es ∙ rw (el ∙ past a n from (omega arith), er ∙ past b m from (omega arith), min-minus (a + n) (b + m) from, ef)
+
+-- a join, by the tests of emptiness
+module _ (a b : Rectangle) where
+  pub join-second-empty : isEmpty b ≡ true → a ≡ join a b
+  unfolding join
+  join-second-empty e = rw e
+
+  pub join-first-empty : isEmpty b ≡ false → isEmpty a ≡ true → b ≡ join a b
+  unfolding join
+  join-first-empty e f = rw (e, f)
+
+  pub join-neither-empty : isEmpty b ≡ false → isEmpty a ≡ false → envelope a b ≡ join a b
+  unfolding join
+  join-neither-empty e f = rw (e, f)
+
+-- what is made of two rectangles whose ends fit has ends that fit
+module _ (a b : Rectangle) (fa : EndsFit a) (fb : EndsFit b) where
+  pub ends-fit-envelope : EndsFit (envelope a b)
+  unfolding envelope
+  ends-fit-envelope = omega (arith, fa, fb)
+
+  pub ends-fit-join : EndsFit (join a b)
+  unfolding join
+  ends-fit-join = go (isEmpty b) (isEmpty a)
+    where
+      go : (t u : Bool) → EndsFit (cond t a (cond u b (envelope a b)))
+      go true u = fa
+      go false true = fb
+      go false false = ends-fit-envelope
+
+  pub ends-fit-intersection : EndsFit (intersection a b)
+  unfolding intersection
+  ends-fit-intersection = omega (arith, fa, fb)

@@ -1,2 +1,3 @@
 pub mod Rectangle
 pub mod Layer
+pub mod Canvas

@@ -1,5 +1,19 @@
 // Coordinates are counted from a point 2^21 columns left of and 2^21 rows above the frame's corner, so that each is a natural
 // number.
+use numbers::greatest;
+use numbers::least;
+use numbers::minus;
+ghost use mathlib.Core.Path.{_≡_};
+ghost use Prim.Native.Nat.{_+_, _-_, _<_, min, max};
+ghost use lib.ListN.{length, replicate};
+ghost use Rattle.geometry.specs.Rectangle.{EndsFit, covers, isEmpty, envelope, join, intersection};
+ghost use Rattle.geometry.specs.Layer.{paint, paintIn, filled};
+ghost use Rattle.geometry.specs.Canvas.{Canvas, onFrame};
+
+pub mod numbers;
+
+// The column and the row of the frame's corner.
+pub const ORIGIN: u32 = 2097152;
 
 // A point: embedded-graphics' `Point`.
 pub struct Point {
@@ -25,4 +39,194 @@ pub struct Rectangle {
 pub enum OptionalGrey {
     Unset,
     Set(u8),
+}
+
+impl Rectangle {
+    // Whether the rectangle covers a pixel.
+    pub fn contains(self, column: u32, row: u32) -> bool
+        ensures { λ r. ⌜ r ≡ covers self column row ⌝ }
+    {
+        let left = self.left;
+        let top = self.top;
+        if column < left {
+            return false;
+        }
+        if self.width <= column - left {
+            return false;
+        }
+        if row < top {
+            return false;
+        }
+        if self.height <= row - top {
+            return false;
+        }
+        true
+    }
+
+    // Whether the rectangle covers no pixel.
+    pub fn is_empty(self) -> bool
+        ensures { λ r. ⌜ r ≡ isEmpty self ⌝ }
+    {
+        if self.width == 0 {
+            return true;
+        }
+        self.height == 0
+    }
+
+    // The smallest rectangle that holds both.
+    pub fn envelope(self, other: Rectangle) -> Rectangle
+        requires { ⌜ EndsFit self ⌝ }
+        requires { ⌜ EndsFit other ⌝ }
+        ensures { λ r. ⌜ r ≡ envelope self other ⌝ }
+    {
+        let left = least(self.left, other.left);
+        let top = least(self.top, other.top);
+        let right = greatest(self.left + self.width, other.left + other.width);
+        let foot = greatest(self.top + self.height, other.top + other.height);
+        Rectangle {
+            left,
+            top,
+            width: right - left,
+            height: foot - top,
+        }
+    }
+
+    // The smallest rectangle that holds those of the two that are not empty.
+    pub fn join(self, other: Rectangle) -> Rectangle
+        requires { ⌜ EndsFit self ⌝ }
+        requires { ⌜ EndsFit other ⌝ }
+        ensures { λ r. ⌜ r ≡ join self other ⌝ }
+    {
+        if other.is_empty() {
+            return self;
+        }
+        if self.is_empty() {
+            return other;
+        }
+        self.envelope(other)
+    }
+
+    // What the two rectangles share.
+    pub fn intersection(self, other: Rectangle) -> Rectangle
+        ensures { λ r. ⌜ r ≡ intersection self other ⌝ }
+    {
+        let left = greatest(self.left, other.left);
+        let top = greatest(self.top, other.top);
+        let width = shared(self.left, self.width, other.left, other.width);
+        let height = shared(self.top, self.height, other.top, other.height);
+        Rectangle {
+            left,
+            top,
+            width,
+            height,
+        }
+    }
+}
+
+// How many of the n numbers from a on are among the m from b on.
+fn shared(a: u32, n: u32, b: u32, m: u32) -> u32
+    ensures { λ r. ⌜ r ≡ min (a + n) (b + m) - max a b ⌝ }
+{
+    let from = greatest(a, b);
+    let first = minus(n, from - a);
+    let second = minus(m, from - b);
+    least(first, second)
+}
+
+// Fills a row of pixels.
+pub fn fill_row(row: &mut [u8], grey: u8)
+    ensures { λ _. ⌜ now (row .exit) ≡ replicate (length (now (row .entry))) grey ⌝ }
+{
+    let mut i = 0;
+    while i < row.len() {
+        row[i] = grey;
+        i += 1;
+    }
+}
+
+// Fills a rectangle of the frame, row by row; its columns and rows are counted from the frame's corner.
+fn fill_rows(
+    frame: &mut [u8],
+    fw: usize,
+    fh: usize,
+    left: usize,
+    top: usize,
+    width: usize,
+    height: usize,
+    grey: u8,
+)
+    requires { ⌜ Canvas fw fh (length (now frame)) (onFrame left top width height) ⌝ }
+    ensures { λ _. ⌜ now (frame .exit) ≡ paint fw (filled (onFrame left top width height) (OptionalGrey.Set grey)) (now (frame .entry)) ⌝ }
+{
+    let mut k: usize = 0;
+    while k < height {
+        let a = (top + k) * fw + left;
+        let b = a + width;
+        fill_row(&mut frame[a..b], grey);
+        k += 1;
+    }
+}
+
+// The same: rows as wide as the frame are filled as one.
+fn fill_box(
+    frame: &mut [u8],
+    fw: usize,
+    fh: usize,
+    left: usize,
+    top: usize,
+    width: usize,
+    height: usize,
+    grey: u8,
+)
+    requires { ⌜ Canvas fw fh (length (now frame)) (onFrame left top width height) ⌝ }
+    ensures { λ _. ⌜ now (frame .exit) ≡ paint fw (filled (onFrame left top width height) (OptionalGrey.Set grey)) (now (frame .entry)) ⌝ }
+{
+    if width == fw {
+        let a = top * fw;
+        let b = a + height * fw;
+        fill_row(&mut frame[a..b], grey);
+        return;
+    }
+    fill_rows(frame, fw, fh, left, top, width, height, grey);
+}
+
+// Fills what the area and the clip share.
+pub fn fill_solid(
+    frame: &mut [u8],
+    fw: usize,
+    fh: usize,
+    clip: Rectangle,
+    area: Rectangle,
+    grey: u8,
+)
+    requires { ⌜ Canvas fw fh (length (now frame)) clip ⌝ }
+    ensures { λ _. ⌜ now (frame .exit) ≡ paintIn fw clip (filled area (OptionalGrey.Set grey)) (now (frame .entry)) ⌝ }
+{
+    let shown = clip.intersection(area);
+    if shown.is_empty() {
+        return;
+    }
+    let left = (shown.left - ORIGIN) as usize;
+    let top = (shown.top - ORIGIN) as usize;
+    let width = shown.width as usize;
+    let height = shown.height as usize;
+    fill_box(frame, fw, fh, left, top, width, height, grey);
+}
+
+// The same with a colour that may be unset: then nothing is filled.
+pub fn fill(
+    frame: &mut [u8],
+    fw: usize,
+    fh: usize,
+    clip: Rectangle,
+    area: Rectangle,
+    color: OptionalGrey,
+)
+    requires { ⌜ Canvas fw fh (length (now frame)) clip ⌝ }
+    ensures { λ _. ⌜ now (frame .exit) ≡ paintIn fw clip (filled area color) (now (frame .entry)) ⌝ }
+{
+    match color {
+        OptionalGrey::Unset => {}
+        OptionalGrey::Set(grey) => fill_solid(frame, fw, fh, clip, area, grey),
+    }
 }

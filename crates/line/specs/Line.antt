@@ -26,6 +26,9 @@ pub record Font : Type 0 where
   pub atlas : List ℕ
   pub mapping : List ℕ
 
+abbrev pub fontOf : MonoFont → List ℕ → List ℕ → Font
+fontOf m atlas mapping = record { mono = m; atlas = atlas; mapping = mapping }
+
 -- ---- the drawn metrics: document 01's cw, ch and s
 
 abbrev pub characterWidth : MonoFont → ℕ

@@ -1,9 +1,9 @@
 -- What an entry says of the characters and of the list from its position on. Assumes nothing.
 use mathlib.Core.Path.{_≡_, refl, sym, _∙_, ap}
 use mathlib.Core.Logic.{_⊎_, inl, inr, ⊎-elim}
-use mathlib.Core.Bool.{Bool, true, false, cond}
+use mathlib.Core.Bool.{Bool, true, false}
 use mathlib.Core.List.{List, [], _∷_, _++_}
-use Prim.Native.Nat.{ℕ, zero, suc, _+_, _-_, _<_, _≤_}
+use Prim.Native.Nat.{ℕ, zero, suc, _-_, _<_, _≤_}
 use native.Mathlib.Omega.{arith}
 use borrow.Author.Tests.{le-leb, lt-leb}
 use denote.Enum.Declared.{tagOf}
@@ -13,7 +13,7 @@ use Rattle.characters.specs.declared.Cursor.{Cursor}
 use Rattle.characters.specs.declared.Step.{Step}
 use Rattle.characters.specs.declared.Step.the-variants.{Character, IllFormed, End}
 use Rattle.characters.specs.Utf8.{isSurrogate, stepAt, charsFrom, wellFormedFrom}
-use Rattle.characters.proofs.Steps.{Advances, step-advances, step-ill-formed, step-end}
+use Rattle.characters.proofs.Steps.{step-advances, step-ill-formed, step-end}
 use Rattle.characters.proofs.Folds.{Stopped, stopped-cases, chars-character, chars-stopped, well-formed-character, well-formed-stopped, well-formed-past}
 use Rattle.mapping.proofs.Entry.{the-type as entry-type}
 use Rattle.mapping.specs.declared.Entry.{Entry}

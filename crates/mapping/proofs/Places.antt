@@ -1,19 +1,18 @@
 -- `find`, `index`, `contains` and `check_mapping`: a law for each fact that they need, where x is the entry at a position. Assumes nothing.
 use mathlib.Core.Path.{_≡_, refl, sym, _∙_, ap}
-use mathlib.Core.Logic.{_⊎_, inl, inr, ⊎-elim}
-use mathlib.Core.Bool.{Bool, true, false, not, cond, _&&_, and-eq-true-iff, true≢false}
-use mathlib.Core.List.{List, [], _∷_, _++_}
-use Prim.Native.Nat.{ℕ, zero, suc, _+_, _-_, _<_, _≤_, min}
+use mathlib.Core.Logic.{_⊎_, ⊎-elim}
+use mathlib.Core.Bool.{Bool, true, false, cond, and-eq-true-iff, true≢false}
+use mathlib.Core.List.{List, [], _∷_}
+use Prim.Native.Nat.{ℕ, suc, _+_, _-_, _<_, _≤_, min}
 use native.Mathlib.Omega.{arith}
 use native.Mathlib.Decide.{decLt}
-use borrow.Author.Tests.{leb-true, not-true, le-leb, lt-leb, eqb-true, eqb-false}
+use borrow.Author.Tests.{leb-true, not-true, le-leb, lt-leb}
 use denote.Enum.Declared.{tagOf}
 use lib.ListN.{length, length-append}
 use lib.Dec.{leb, eqb}
 use mir.Val.{Fits}
 use mir.Syntax.{w64}
 use Rattle.characters.specs.declared.Cursor.{Cursor}
-use Rattle.characters.specs.Refusal.{need}
 use Rattle.characters.specs.Utf8.{isSurrogate, charsFrom, wellFormedFrom}
 use Rattle.mapping.proofs.Entry.{the-type as entry-type}
 use Rattle.mapping.specs.declared.Entry.{Entry}
@@ -23,7 +22,7 @@ use Rattle.mapping.specs.declared.Found.the-variants.{At, Nothing}
 use Rattle.mapping.specs.Entries.{entryAt, inRange, atMost, stopRefusal, WithinLimit}
 use Rattle.mapping.specs.Mapping.{range, spelled, listOf, placeFrom, placeOr, isFound, refusal}
 use Rattle.mapping.proofs.Ranges.{length-range-le, length-range-through, place-in, place-past}
-use Rattle.mapping.proofs.Entries.{Ranges, entry-range, entry-stopped, entry-ill-formed, entry-end, stopped-entry}
+use Rattle.mapping.proofs.Entries.{entry-range, entry-stopped, entry-ill-formed, entry-end, stopped-entry}
 
 -- ---- positions up to a limit
 

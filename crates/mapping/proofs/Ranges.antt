@@ -1,17 +1,17 @@
 -- Characters are counted and found in a range without listing it. Assumes nothing.
 use mathlib.Core.Path.{_≡_, refl, sym, _∙_, ap}
-use mathlib.Core.Bool.{Bool, true, false, cond, _&&_, true≢false}
-use mathlib.Core.List.{List, [], _∷_, _++_}
+use mathlib.Core.Logic.{⊎-elim}
+use mathlib.Core.Bool.{true, false, cond}
+use mathlib.Core.List.{List, _++_, append-assoc}
+use mathlib.Mathlib.Data.Bool.Basic.{dichotomy}
 use Prim.Native.Nat.{ℕ, zero, suc, _+_, _-_, _<_, _≤_}
 use native.Mathlib.Numerals.{add-one}
 use native.Mathlib.Omega.{arith}
 use native.Mathlib.Decide.{decLt}
 use borrow.Author.Tests.{lt-ltb, le-ltb, lt-leb, le-leb, eq-eqb, ne-eqb}
 use lib.ListN.{length}
-use lib.Dec.{ltb, leb, eqb}
 use Rattle.characters.specs.Utf8.{isSurrogate}
-use Rattle.mapping.specs.declared.Found.{Found}
-use Rattle.mapping.specs.declared.Found.the-variants.{At, Nothing}
+use Rattle.mapping.specs.declared.Found.the-variants.{At}
 use Rattle.mapping.specs.Entries.{scalarsBelow}
 use Rattle.mapping.specs.Mapping.{scalarsFrom, range, placeFrom}
 
@@ -47,13 +47,14 @@ below-suc v =
 pub length-scalars : (n a : ℕ) → scalarsBelow a + length (scalarsFrom n a) ≡ scalarsBelow (a + n)
 unfolding scalarsFrom
 length-scalars zero a = let e : a + 0 ≡ a = omega arith in rw e (omega arith)
-length-scalars (suc n) a = by (isSurrogate a) (below-suc a) (length-scalars n (suc a))
-  where
-    by : (t : Bool) → scalarsBelow (suc a) ≡ cond t (scalarsBelow a) (suc (scalarsBelow a))
-        → scalarsBelow (suc a) + length (scalarsFrom n (suc a)) ≡ scalarsBelow (suc a + n)
-        → scalarsBelow a + length (cond t (scalarsFrom n (suc a)) (a ∷ scalarsFrom n (suc a))) ≡ scalarsBelow (a + suc n)
-    by true s i = let e : suc a + n ≡ a + suc n = omega arith in let v = ap scalarsBelow e in omega arith
-    by false s i = let e : suc a + n ≡ a + suc n = omega arith in let v = ap scalarsBelow e in omega arith
+length-scalars (suc n) a =
+    let i = length-scalars n (suc a) in
+    let e : suc a + n ≡ a + suc n = omega arith in
+    let v = ap scalarsBelow e in
+    ⊎-elim
+    (λ t. let s : scalarsBelow (suc a) ≡ suc (scalarsBelow a) = rw t at (below-suc a) in rw t (omega arith))
+    (λ t. let s : scalarsBelow (suc a) ≡ scalarsBelow a = rw t at (below-suc a) in rw t (omega arith))
+    (dichotomy (isSurrogate a))
 
 length-scalars-between : (start end : ℕ) → length (scalarsFrom (end - start) start) ≡ scalarsBelow end - scalarsBelow start
 unfolding scalarsFrom
@@ -93,50 +94,44 @@ length-range-through start ch p h =
 
 -- ---- where a character stands
 
+scalars-append : (m n a : ℕ) → scalarsFrom (m + n) a ≡ scalarsFrom m a ++ scalarsFrom n (a + m)
+unfolding scalarsFrom
+scalars-append zero n a =
+    let e : 0 + n ≡ n = omega arith in
+    let f : a + 0 ≡ a = omega arith in
+    rw (e, f)
+scalars-append (suc m) n a =
+    let e : suc m + n ≡ suc (m + n) = omega arith in
+    let f : a + suc m ≡ suc a + m = omega arith in
+    rw (e, f, scalars-append m n (suc a)) (⊎-elim (λ t. rw t) (λ t. rw t) (dichotomy (isSurrogate a)))
+
 module _ (ch : ℕ) (r : List ℕ) where
-  -- in the range: as far on as there are characters before it
-  place-before : (n k a : ℕ) → isSurrogate ch ≡ false → a ≤ ch → ch < a + n
-      → placeFrom k ch (scalarsFrom n a ++ r) ≡ At (k + length (scalarsFrom (ch - a) a))
-  unfolding scalarsFrom placeFrom
-  place-before zero k a p l h = absurd (omega arith)
-  place-before (suc n) k a p l h = elim (decLt a ch) [
-    | yes m ↦ (
-        let d : ch - a ≡ suc (ch - suc a) = omega arith in
-        rw d (later (isSurrogate a) m (λ j. place-before n j (suc a) p m (omega arith)))
-        )
-    | no m ↦ (
-        let e : a ≡ ch = omega arith in
-        let d : ch - a ≡ 0 = omega arith in
-        let t : isSurrogate a ≡ false = ap isSurrogate e ∙ p in
-        let z : k + 0 ≡ k = omega arith in
-        rw (d, t, eq-eqb a ch e, z)
-        )
-  ]
-    where
-      later : (t : Bool) → a < ch → ((j : ℕ) → placeFrom j ch (scalarsFrom n (suc a) ++ r) ≡ At (j + length (scalarsFrom (ch - suc a) (suc a))))
-          → placeFrom k ch (cond t (scalarsFrom n (suc a)) (a ∷ scalarsFrom n (suc a)) ++ r)
-          ≡ At (k + length (cond t (scalarsFrom (ch - suc a) (suc a)) (a ∷ scalarsFrom (ch - suc a) (suc a))))
-      later true m ih = ih k
-      later false m ih = rw (ne-eqb a ch (λ e. omega arith)) (ih (suc k) ∙ ap At (omega arith))
-
-  pub place-in : (k start end : ℕ) → isSurrogate ch ≡ false → start ≤ ch → ch ≤ end
-      → placeFrom k ch (range start end ++ r) ≡ At (k + length (range start ch) - 1)
-  place-in k start end p l h =
-      let n = length-range-through start ch p l in
-      place-before (suc end - start) k start p l (omega arith) ∙ ap At (omega arith)
-
-  -- not in the range: where it stands after it
+  -- not among the numbers: where it stands after them
   pub place-past : (n k a : ℕ) → (isSurrogate ch ≡ false → a ≤ ch → ch < a + n → ⊥)
       → placeFrom k ch (scalarsFrom n a ++ r) ≡ placeFrom (k + length (scalarsFrom n a)) ch r
   unfolding scalarsFrom placeFrom
   place-past zero k a out = let e : k + 0 ≡ k = omega arith in rw e
-  place-past (suc n) k a out = by (isSurrogate a) refl (λ j. place-past n j (suc a) (λ p l h. out p (omega arith) (omega arith)))
-    where
-      by : (t : Bool) → isSurrogate a ≡ t → ((j : ℕ) → placeFrom j ch (scalarsFrom n (suc a) ++ r) ≡ placeFrom (j + length (scalarsFrom n (suc a))) ch r)
-          → placeFrom k ch (cond t (scalarsFrom n (suc a)) (a ∷ scalarsFrom n (suc a)) ++ r)
-          ≡ placeFrom (k + length (cond t (scalarsFrom n (suc a)) (a ∷ scalarsFrom n (suc a)))) ch r
-      by true t ih = ih k
-      by false t ih =
-          let other : a ≡ ch → ⊥ = λ e. out (ap isSurrogate (sym e) ∙ t) (omega arith) (omega arith) in
-          let i : k + suc (length (scalarsFrom n (suc a))) ≡ suc k + length (scalarsFrom n (suc a)) = omega arith in
-          rw (ne-eqb a ch other, i) (ih (suc k))
+  place-past (suc n) k a out =
+      let rest : (j : ℕ) → placeFrom j ch (scalarsFrom n (suc a) ++ r) ≡ placeFrom (j + length (scalarsFrom n (suc a))) ch r =
+      λ j. place-past n j (suc a) (λ p l h. out p (omega arith) (omega arith)) in
+      let i : k + suc (length (scalarsFrom n (suc a))) ≡ suc k + length (scalarsFrom n (suc a)) = omega arith in
+      ⊎-elim
+      (λ t. rw t (rw (ne-eqb a ch (λ e. out (ap isSurrogate (sym e) ∙ t) (omega arith) (omega arith)), i) (rest (suc k))))
+      (λ t. rw t (rest k))
+      (dichotomy (isSurrogate a))
+
+  -- first of the numbers
+  place-here : (n k : ℕ) → isSurrogate ch ≡ false → placeFrom k ch (scalarsFrom (suc n) ch ++ r) ≡ At k
+  unfolding scalarsFrom placeFrom
+  place-here n k p = rw (p, eq-eqb ch ch refl)
+
+-- in a range: as far on as there are characters in it up to this one
+pub place-in : (ch : ℕ) (r : List ℕ) (k start end : ℕ) → isSurrogate ch ≡ false → start ≤ ch → ch ≤ end
+    → placeFrom k ch (range start end ++ r) ≡ At (k + length (range start ch) - 1)
+place-in ch r k start end p l h =
+    let rest = scalarsFrom (suc (end - ch)) ch ++ r in
+    let parts : suc end - start ≡ (ch - start) + suc (end - ch) = omega arith in
+    let i : start + (ch - start) ≡ ch = omega arith in
+    let n = length-range-through start ch p l in
+    rw (parts, scalars-append (ch - start) (suc (end - ch)) start, i, append-assoc (scalarsFrom (ch - start) start) (scalarsFrom (suc (end - ch)) ch) r)
+    (place-past ch rest (ch - start) k start (λ s a b. omega arith) ∙ place-here ch r (end - ch) _ p ∙ ap At (omega arith))

@@ -5,7 +5,6 @@ use mathlib.Core.List.{List}
 use mathlib.Core.Bool.{Bool, not, cond, _&&_}
 use lib.Dec.{ltb, leb}
 use lib.ListN.{length}
-use Rattle.characters.specs.declared.Cursor.{Cursor}
 use Rattle.characters.specs.declared.Step.{Step}
 use Rattle.characters.specs.declared.Step.the-variants.{Character, IllFormed, End}
 use Rattle.characters.specs.Refusal.{need}

@@ -8,7 +8,7 @@ ghost use Rattle.mapping.specs.Mapping.{range, listOf, placeFrom, index,
 
 // What stands at a position of a mapping: a range of characters and the position after it, a sequence that RFC 3629 does not
 // allow, or the end of the list.
-pub enum Entry {
+enum Entry {
     Range(u32, u32, Cursor),
     IllFormed,
     End,
@@ -53,7 +53,7 @@ fn scalars_below(v: u64) -> u64
     v - 0x800
 }
 
-// How many characters stand from `start` to `end`.
+// How many characters stand from `start` to `end`, both included.
 fn range_len(start: u32, end: u32) -> u64
     ensures { λ r. ⌜ r ≡ length (range start end) ⌝ }
 {

@@ -48,7 +48,7 @@ module _ (b : List ℕ) (i : ℕ) (g : Accepted b) where
   slot-apart : i < itemCount b → itemAt b i + 28 ≤ slotOffset b (itemAt b i)
   slot-apart l = omega (arith, g .laid-out .slot-after i l)
 
-  pub text-edited : (t : List ℕ) → textRefusal b i t ≡ 0 → item (putText b (itemAt b i) t) i ≡ record { text = t; position = item b i .position; font = item b i .font; characterStyle = item b i .characterStyle; textStyle = item b i .textStyle }
+  pub text-edited : (t : List ℕ) → textRefusal b i t ≡ 0 → item (putText b (itemAt b i) t) i ≡ record { text = t; position = item b i .position; characterStyle = item b i .characterStyle; textStyle = item b i .textStyle }
   unfolding item itemOf
   text-edited t a =
       let f = text-allowed b i t a in
@@ -64,14 +64,12 @@ module _ (b : List ℕ) (i : ℕ) (g : Accepted b) where
         putText-text b o t (f .short) within,
         same-u16 b (putText b o t) o (λ k p q. same k (omega arith) (omega arith)),
         same-u16 b (putText b o t) (o + 2) (λ k p q. same k (omega arith) (omega arith)),
-        same (o + 12) (omega arith) (omega arith),
-        same-font b (newText i t) g a (fontNumber b o) (fits .font-there),
         same-monoTextStyle b (putText b o t) o (λ k p q. same k (omega arith) (omega arith)),
         same-textStyle b (putText b o t) o (λ k p q. same k (omega arith) (omega arith)),
       )
 
   pub place-edited : (x y : ℤ) → placeRefusal b i x y ≡ 0
-      → item (putPlace b (itemAt b i) (biased x) (biased y)) i ≡ record { text = item b i .text; position = record { x = biased x; y = biased y }; font = item b i .font; characterStyle = item b i .characterStyle; textStyle = item b i .textStyle }
+      → item (putPlace b (itemAt b i) (biased x) (biased y)) i ≡ record { text = item b i .text; position = record { x = biased x; y = biased y }; characterStyle = item b i .characterStyle; textStyle = item b i .textStyle }
   unfolding item itemOf
   place-edited x y a =
       let f = place-allowed b i x y a in
@@ -90,14 +88,12 @@ module _ (b : List ℕ) (i : ℕ) (g : Accepted b) where
         putPlace-y b o (biased x) (biased y) (within .record-in),
         coordinate-biased x (f .x-in),
         coordinate-biased y (f .y-in),
-        same (o + 12) (omega arith),
-        same-font b (newPlace i x y) g a (fontNumber b o) (fits .font-there),
         same-monoTextStyle b b′ o (λ k p q. same k (omega arith)),
         same-textStyle b b′ o (λ k p q. same k (omega arith)),
       )
 
   pub style-edited : (t : List ℕ) → styleRefusal b i t ≡ 0
-      → item (putStyle b (itemAt b i) t) i ≡ record { text = item b i .text; position = item b i .position; font = item b i .font; characterStyle = styleOf t; textStyle = item b i .textStyle }
+      → item (putStyle b (itemAt b i) t) i ≡ record { text = item b i .text; position = item b i .position; characterStyle = styleOf t; textStyle = item b i .textStyle }
   unfolding item itemOf monoTextStyle
   style-edited t a =
       let f = style-allowed b i t a in
@@ -115,8 +111,6 @@ module _ (b : List ℕ) (i : ℕ) (g : Accepted b) where
         same-part b b′ (slotOffset b o) (textLength b o) (length-putStyle b o t) (λ k p q. same k (omega arith)),
         same-u16 b b′ o (λ k p q. same k (omega arith)),
         same-u16 b b′ (o + 2) (λ k p q. same k (omega arith)),
-        same (o + 12) (omega arith),
-        same-font b (newStyle i t) g a (fontNumber b o) (fits .font-there),
         at 0 (o + 13) (omega arith) (omega arith),
         at 1 (o + 14) (omega arith) (omega arith),
         at 2 (o + 15) (omega arith) (omega arith),

@@ -12,7 +12,7 @@ use borrow.Author.Tests.{eqb-true, eqb-false}
 use Rattle.sheet.specs.Fields
 use Rattle.sheet.specs.Fields.{frameWidth, frameHeight, paper, fontCount, itemCount, fontAt, itemAt, piecesAt, slotOffset, slotSize, textLength}
 use Rattle.sheet.specs.Accepted.{Accepted}
-use Rattle.sheet.specs.Records.{monoFont, font, monoTextStyle, textStyle, itemOf, item}
+use Rattle.sheet.specs.Records.{monoFont, font, monoTextStyle, textStyle, itemOf, item, itemFont}
 use Rattle.sheet.specs.Edits.{Edit, itemNumber, refusal, edited}
 use Rattle.sheet.proofs.Bytes.{SameBytes, same-u16, same-u32, same-part}
 use Rattle.sheet.proofs.Allowed.{listed, unwritten, same-length}
@@ -57,17 +57,14 @@ module _ (b b′ : List ℕ) (o : ℕ) where
     same-u16 b b′ (o + 24) (λ k p q. s k (omega arith) (omega arith)),
   )
 
-  same-itemOf : length b′ ≡ length b → SameBytes b b′ o 28 → SameBytes b b′ (slotOffset b o) (textLength b o) → font b′ (Fields.fontNumber b o) ≡ font b (Fields.fontNumber b o)
-      → itemOf b′ o ≡ itemOf b o
+  same-itemOf : length b′ ≡ length b → SameBytes b b′ o 28 → SameBytes b b′ (slotOffset b o) (textLength b o) → itemOf b′ o ≡ itemOf b o
   unfolding itemOf
-  same-itemOf l s w f = rw (
+  same-itemOf l s w = rw (
     same-u32 b b′ (o + 4) (λ k p q. s k (omega arith) (omega arith)),
     same-u16 b b′ (o + 10) (λ k p q. s k (omega arith) (omega arith)),
     same-part b b′ (slotOffset b o) (textLength b o) l w,
     same-u16 b b′ o (λ k p q. s k (omega arith) (omega arith)),
     same-u16 b b′ (o + 2) (λ k p q. s k (omega arith) (omega arith)),
-    s (o + 12) (omega arith) (omega arith),
-    f,
     same-monoTextStyle (λ k p q. s k (omega arith) (omega arith)),
     same-textStyle (λ k p q. s k (omega arith) (omega arith)),
   )
@@ -155,5 +152,16 @@ module _ (b : List ℕ) (e : Edit) (g : Accepted b) (a : refusal b e ≡ 0) wher
   unfolding item
   same-other j h d =
       let f = g .item-fits j h in
-      rw same-fontCount
-      (same-itemOf b (edited b e) (itemAt b j) (same-length b e) (same-record j h d) (λ k p q. same-slot j h d k p (omega arith)) (same-font (Fields.fontNumber b (itemAt b j)) (f .font-there)))
+      rw same-fontCount (same-itemOf b (edited b e) (itemAt b j) (same-length b e) (same-record j h d) (λ k p q. same-slot j h d k p (omega arith)))
+
+  -- every item keeps its font
+  same-fontNumber : (j : ℕ) → j < itemCount b → Fields.fontNumber (edited b e) (itemAt b j) ≡ Fields.fontNumber b (itemAt b j)
+  same-fontNumber j h = go (eqb j (itemNumber e)) refl
+    where
+      go : (t : Bool) → eqb j (itemNumber e) ≡ t → getD (edited b e) (itemAt b j + 12) 0 ≡ getD b (itemAt b j + 12) 0
+      go true u = let z = eqb-true j (itemNumber e) u in unwritten b e a (itemAt b j + 12) (let l = listed b e a in let s = slot-after in omega arith)
+      go false u = same-record j h (eqb-false j (itemNumber e) u) (itemAt b j + 12) (omega arith) (omega arith)
+
+  pub same-itemFont : (j : ℕ) → j < itemCount b → itemFont (edited b e) j ≡ itemFont b j
+  unfolding itemFont
+  same-itemFont j h = rw (same-fontCount, same-fontNumber j h) (same-font (Fields.fontNumber b (itemAt b j)) (g .item-fits j h .font-there))

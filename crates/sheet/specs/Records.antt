@@ -85,11 +85,13 @@ unfoldable pub itemOf : List ℕ → ℕ → Text
 itemOf b o = record {
   text = Fields.textBytes b o;
   position = record { x = Fields.coordinate (Fields.itemX b o); y = Fields.coordinate (Fields.itemY b o) };
-  font = font b (Fields.fontNumber b o);
   characterStyle = monoTextStyle b o;
   textStyle = textStyle b o;
 }
 
--- item number n
+-- item number n, and the font that it is set in
 unfoldable pub item : List ℕ → ℕ → Text
 item b n = itemOf b (Fields.itemAt b n)
+
+unfoldable pub itemFont : List ℕ → ℕ → Font
+itemFont b n = font b (Fields.fontNumber b (Fields.itemAt b n))

@@ -19,13 +19,15 @@ use Rattle.text.specs.declared.LineHeight.{LineHeight}
 use Rattle.text.specs.declared.LineHeight.the-variants.{Pixels, Percent}
 use Rattle.text.specs.declared.TextStyle.{TextStyle}
 
--- embedded-graphics' `Text`, with its font
+-- embedded-graphics' `Text`; its font stands beside it
 pub record Text : Type 0 where
   pub text : List ℕ
   pub position : Point
-  pub font : Font
   pub characterStyle : MonoTextStyle
   pub textStyle : TextStyle
+
+abbrev pub textOf : List ℕ → ℕ → ℕ → MonoTextStyle → TextStyle → Text
+textOf text x y style textStyle = record { text = text; position = record { x = x; y = y }; characterStyle = style; textStyle = textStyle }
 
 -- ---- lines
 
@@ -61,46 +63,46 @@ pub record PlacedLine : Type 0 where
   pub y : ℕ
 
 -- the alignment measures the line with its 0D; "Then" the 0D is dropped
-unfoldable pub placeLine : Text → List ℕ → ℕ → PlacedLine
-placeLine t l y = record {
+unfoldable pub placeLine : MonoFont → Text → List ℕ → ℕ → PlacedLine
+placeLine m t l y = record {
   text = withoutReturn l;
-  x = alignedStart (t .textStyle .alignment) (t .position .x) (measuredWidth (t .font .mono) (length (chars l)));
+  x = alignedStart (t .textStyle .alignment) (t .position .x) (measuredWidth m (length (chars l)));
   y = y;
 }
 
-unfoldable pub placeLines : Text → List (List ℕ) → ℕ → List PlacedLine
-placeLines t [] y = []
-placeLines t (l ∷ ls) y = placeLine t l y ∷ placeLines t ls (y + lineHeight (t .font .mono) (t .textStyle .«line_height»))
+unfoldable pub placeLines : MonoFont → Text → List (List ℕ) → ℕ → List PlacedLine
+placeLines m t [] y = []
+placeLines m t (l ∷ ls) y = placeLine m t l y ∷ placeLines m t ls (y + lineHeight m (t .textStyle .«line_height»))
 
-unfoldable pub placedLines : Text → List PlacedLine
-placedLines t = placeLines t (lines (t .text)) (t .position .y)
+unfoldable pub placedLines : MonoFont → Text → List PlacedLine
+placedLines m t = placeLines m t (lines (t .text)) (t .position .y)
 
 -- ---- `Text::draw`
 
-abbrev pub lineTop : Text → PlacedLine → ℕ
-lineTop t l = topEdge (t .font .mono) (t .textStyle .baseline) (l .y)
+abbrev pub lineTop : MonoFont → Text → PlacedLine → ℕ
+lineTop m t l = topEdge m (t .textStyle .baseline) (l .y)
 
-unfoldable pub lineLayer : Text → PlacedLine → Layer
-lineLayer t l = string (t .font) (t .characterStyle) (l .text) (l .x) (lineTop t l)
+unfoldable pub lineLayer : Font → Text → PlacedLine → Layer
+lineLayer f t l = string f (t .characterStyle) (l .text) (l .x) (lineTop (f .mono) t l)
 
-unfoldable pub linesLayer : Text → List PlacedLine → Layer
-linesLayer t [] = transparent
-linesLayer t (l ∷ ls) = over (linesLayer t ls) (lineLayer t l)
+unfoldable pub linesLayer : Font → Text → List PlacedLine → Layer
+linesLayer f t [] = transparent
+linesLayer f t (l ∷ ls) = over (linesLayer f t ls) (lineLayer f t l)
 
-unfoldable pub layer : Text → Layer
-layer t = linesLayer t (placedLines t)
+unfoldable pub layer : Font → Text → Layer
+layer f t = linesLayer f t (placedLines (f .mono) t)
 
 -- "The next position is (x + advance, y)"
-unfoldable pub lineNext : Text → PlacedLine → Point
-lineNext t l = record { x = l .x + advance (t .font .mono) (t .characterStyle) (length (chars (l .text))); y = l .y }
+unfoldable pub lineNext : MonoFont → Text → PlacedLine → Point
+lineNext m t l = record { x = l .x + advance m (t .characterStyle) (length (chars (l .text))); y = l .y }
 
-unfoldable pub lastNext : Text → Point → List PlacedLine → Point
-lastNext t p [] = p
-lastNext t p (l ∷ ls) = lastNext t (lineNext t l) ls
+unfoldable pub lastNext : MonoFont → Text → Point → List PlacedLine → Point
+lastNext m t p [] = p
+lastNext m t p (l ∷ ls) = lastNext m t (lineNext m t l) ls
 
 -- "`Text::draw` returns the last line's next position"
-unfoldable pub next : Text → Point
-next t = lastNext t (t .position) (placedLines t)
+unfoldable pub next : MonoFont → Text → Point
+next m t = lastNext m t (t .position) (placedLines m t)
 
 -- ---- boxes
 
@@ -108,16 +110,16 @@ next t = lastNext t (t .position) (placedLines t)
 abbrev pub nowhere : Text → Rectangle
 nowhere t = rectangle (t .position .x) (t .position .y) 0 0
 
--- "`Text::bounding_box` joins the nonempty measured boxes; if none, size 0 at the item's position"
-unfoldable pub measuredBox : Text → PlacedLine → Rectangle
-measuredBox t l = Line.measuredBox (t .font .mono) (t .characterStyle) (length (chars (l .text))) (l .x) (lineTop t l)
+unfoldable pub measuredBox : MonoFont → Text → PlacedLine → Rectangle
+measuredBox m t l = Line.measuredBox m (t .characterStyle) (length (chars (l .text))) (l .x) (lineTop m t l)
 
-unfoldable pub boundingBox : Text → Rectangle
-boundingBox t = joins (nowhere t) (map (measuredBox t) (placedLines t))
+-- "`Text::bounding_box` joins the nonempty measured boxes; if none, size 0 at the item's position"
+unfoldable pub boundingBox : MonoFont → Text → Rectangle
+boundingBox m t = joins (nowhere t) (map (measuredBox m t) (placedLines m t))
+
+unfoldable pub lineInk : MonoFont → Text → PlacedLine → Rectangle
+lineInk m t l = Line.inkBox m (t .characterStyle) (length (chars (l .text))) (l .x) (lineTop m t l)
 
 -- document 01's ink box of an item: "the smallest holding its nonempty line boxes"
-unfoldable pub lineInk : Text → PlacedLine → Rectangle
-lineInk t l = Line.inkBox (t .font .mono) (t .characterStyle) (length (chars (l .text))) (l .x) (lineTop t l)
-
-unfoldable pub inkBox : Text → Rectangle
-inkBox t = joins (nowhere t) (map (lineInk t) (placedLines t))
+unfoldable pub inkBox : MonoFont → Text → Rectangle
+inkBox m t = joins (nowhere t) (map (lineInk m t) (placedLines m t))

@@ -1,0 +1,4 @@
+pub mod Exact
+pub mod Damage
+pub mod Repaint
+pub mod Painting

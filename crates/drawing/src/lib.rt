@@ -1,0 +1,1 @@
+// The fresh drawing of a sheet, the damage rectangle of an edit, and repainting.

@@ -1,0 +1,167 @@
+-- Laws of a frame: a run of its pixels painted and put back, and a rectangle of it painted row by row. Assumes nothing.
+use Prim.Native.Nat.{ℕ, suc, _+_, _-_, _*_, _/_, _%_, _≤_, _<_}
+use native.Mathlib.Nat.{add-zero, add-suc, suc-add, add-mul, mul-zero, mul-le-mul, mul-le-mul-right, mod-lt, div-add-mod', div-lt-iff-lt-mul, le-div-iff-mul-le, eq-zero-or-pos, eq-or-lt-of-le, add-sub-cancel-left}
+use native.Mathlib.Omega.{arith}
+use mathlib.Core.Path.{_≡_, refl, sym, ap, _∙_}
+use mathlib.Core.List.{List, [], _∷_, _++_}
+use mathlib.Core.Logic.{⊎-elim}
+use lib.ListN.{length, getD, take, drop, length-drop, take-append-drop}
+use lib.Seq.{length-take-le, ext-getD}
+use lib.Arith.{digits-div, digits-mod}
+use mir.Syntax.{w64}
+use mir.Val.{Fits}
+use borrow.Rule.Slice.PartMut.{putMid}
+use Rattle.geometry.specs.declared.Rectangle.{Rectangle}
+use Rattle.geometry.specs.Layer.{origin, Layer, over, within, mapIndexed, paint}
+use Rattle.geometry.specs.Canvas.{Canvas, onFrame}
+use Rattle.geometry.proofs.Rectangles.{In, in-or-out}
+use Rattle.geometry.proofs.Layers.{within-in, within-out, length-mapIndexed, mapIndexed-at, mapIndexed-same, length-paint, paint-over, paint-none, paint-same}
+
+mapIndexed-append : (f : ℕ → ℕ → ℕ) (k : ℕ) (xs ys : List ℕ) → mapIndexed f k (xs ++ ys) ≡ mapIndexed f k xs ++ mapIndexed f (k + length xs) ys
+unfolding mapIndexed
+mapIndexed-append f k [] ys = rw (add-zero k)
+mapIndexed-append f k (x ∷ xs) ys = rw (add-suc k (length xs), ← suc-add k (length xs)) (ap (λ (l : List ℕ). f k x ∷ l) (mapIndexed-append f (suc k) xs ys))
+
+mapIndexed-none : (f : ℕ → ℕ → ℕ) (k : ℕ) (xs : List ℕ) → ((i x : ℕ) → i < length xs → f (k + i) x ≡ x) → mapIndexed f k xs ≡ xs
+mapIndexed-none f k xs h =
+    ext-getD 0 (mapIndexed f k xs) xs (length-mapIndexed f k xs)
+    (λ i b. let l : i < length xs = omega (arith, length-mapIndexed f k xs) in mapIndexed-at f k xs i l ∙ h i (getD xs i 0) l)
+
+-- a part painted and put back, by a map that changes nothing else
+put-part : (f : ℕ → ℕ → ℕ) (a n : ℕ) (xs : List ℕ) → a + n ≤ length xs → ((i x : ℕ) → i < a → f i x ≡ x) → ((i x : ℕ) → a + n ≤ i → f i x ≡ x)
+    → putMid a n xs (mapIndexed f a (take n (drop a xs))) ≡ mapIndexed f 0 xs
+put-part f a n xs room before after =
+    let la : length (take a xs) ≡ a = length-take-le a xs (omega arith) in
+    let ln : length (take n (drop a xs)) ≡ n = length-take-le n (drop a xs) (rw length-drop (omega arith)) in
+    let first : mapIndexed f 0 (take a xs) ≡ take a xs = mapIndexed-none f 0 (take a xs) (λ i x l. before (0 + i) x (omega arith)) in
+    let last : mapIndexed f (a + n) (drop n (drop a xs)) ≡ drop n (drop a xs) = mapIndexed-none f (a + n) (drop n (drop a xs)) (λ i x l. after (a + n + i) x (omega arith)) in
+    let rest : mapIndexed f a (drop a xs) ≡ mapIndexed f a (take n (drop a xs)) ++ drop n (drop a xs) =
+    ap (mapIndexed f a) (sym (take-append-drop n (drop a xs))) ∙ mapIndexed-append f a (take n (drop a xs)) (drop n (drop a xs)) ∙ rw (ln, last) in
+    let e : 0 + length (take a xs) ≡ a = omega arith in
+    sym (ap (mapIndexed f 0) (sym (take-append-drop a xs)) ∙ mapIndexed-append f 0 (take a xs) (drop a xs) ∙ rw (e, first, rest))
+
+-- the n pixels from a on are those of a rectangle
+pub record Run (fw a n : ℕ) (m : Rectangle) : Type 0 where
+  pub inside : (i : ℕ) → a ≤ i → i < a + n → In m (origin + i % fw) (origin + i / fw)
+  pub outside : (i : ℕ) → In m (origin + i % fw) (origin + i / fw) → (a ≤ i) × (i < a + n)
+
+-- part of a row
+pub row-run : (fw l r w : ℕ) → l + w ≤ fw → Run fw (r * fw + l) w (onFrame l r w 1)
+row-run fw l r w room = record {
+  inside = λ i p q.
+      let e : r * fw + (i - r * fw) ≡ i = omega arith in
+      let d : i / fw ≡ r = rw e at (digits-div r {m = fw} {r = i - r * fw} (omega arith)) in
+      let m : i % fw ≡ i - r * fw = rw e at (digits-mod r {m = fw} {r = i - r * fw} (omega arith)) in
+      omega arith;
+  outside = λ i h.
+      let d : i / fw ≡ r = omega arith in
+      let e : i / fw * fw ≡ r * fw = ap (λ (q : ℕ). q * fw) d in
+      omega (arith, div-add-mod' i fw);
+}
+
+-- whole rows
+pub rows-run : (fw l t w h : ℕ) → w ≡ fw → l + w ≤ fw → Run fw (t * fw) (h * fw) (onFrame l t w h)
+rows-run fw l t w h e room = record {
+  inside = λ i p q. ⊎-elim
+      (λ (z : fw ≡ 0). let none : h * fw ≡ 0 = rw z (mul-zero h) in absurd (omega arith))
+      (λ (z : 0 < fw).
+      let low : t ≤ i / fw = le-div-iff-mul-le z .1 p in
+      let high : i / fw < t + h = div-lt-iff-lt-mul z .1 (omega (arith, add-mul t h fw)) in
+      omega (arith, mod-lt i z))
+      (eq-zero-or-pos fw);
+  outside = λ i b.
+      let z : 0 < fw = omega arith in
+      let low : t * fw ≤ i = le-div-iff-mul-le z .0 (omega arith) in
+      let high : i < (t + h) * fw = div-lt-iff-lt-mul z .0 (omega arith) in
+      omega (arith, add-mul t h fw);
+}
+
+-- the pixels of a rectangle that is one run, painted and put back
+pub paint-run : (fw a n : ℕ) (m : Rectangle) (f : Layer) (frame : List ℕ) → Run fw a n m → a + n ≤ length frame
+    → putMid a n frame (mapIndexed (λ i grey. f (origin + i % fw) (origin + i / fw) grey) a (take n (drop a frame))) ≡ paint fw (within m f) frame
+unfolding paint
+paint-run fw a n m f frame run room =
+    let ln : length (take n (drop a frame)) ≡ n = length-take-le n (drop a frame) (rw length-drop (omega arith)) in
+    ap (putMid a n frame) (mapIndexed-same _ (λ i grey. within m f (origin + i % fw) (origin + i / fw) grey) a a (take n (drop a frame))
+    (λ i x l. sym (within-in m f _ _ x (run .inside (a + i) (omega arith) (omega arith)))))
+    ∙ put-part (λ i grey. within m f (origin + i % fw) (origin + i / fw) grey) a n frame room
+    (λ i x l. within-out m f _ _ x (λ b. let o = run .outside i b in omega arith))
+    (λ i x l. within-out m f _ _ x (λ b. let o = run .outside i b in omega arith))
+
+-- the state of a loop over the rows of a rectangle of the frame xs: the first k of h rows are painted by f
+pub record RowsPainted (fw l t w h k : ℕ) (f : Layer) (xs frame : List ℕ) : Type 0 where
+  pub painted : frame ≡ paint fw (within (onFrame l t w k) f) xs
+  pub reach : k ≤ h
+  pub size : length frame ≡ length xs
+
+pub rows-start : (fw l t w h : ℕ) (f : Layer) (xs : List ℕ) → RowsPainted fw l t w h 0 f xs xs
+rows-start fw l t w h f xs = record {
+  painted = sym (paint-none fw (within (onFrame l t w 0) f) xs (λ c r grey. within-out (onFrame l t w 0) f c r grey (λ i. omega arith)));
+  reach = omega arith;
+  size = refl;
+}
+
+-- k rows and the next are k + 1 rows
+rows-next : (l t w k : ℕ) (f : Layer) (c r grey : ℕ) → over (within (onFrame l (t + k) w 1) f) (within (onFrame l t w k) f) c r grey ≡ within (onFrame l t w (k + 1)) f c r grey
+rows-next l t w k f c r grey = ⊎-elim
+    (λ (i : In (onFrame l (t + k) w 1) c r).
+    within-in (onFrame l (t + k) w 1) f c r _ i ∙ ap (f c r) (within-out (onFrame l t w k) f c r grey (λ j. omega arith))
+    ∙ sym (within-in (onFrame l t w (k + 1)) f c r grey (omega arith)))
+    (λ (o : In (onFrame l (t + k) w 1) c r → ⊥). within-out (onFrame l (t + k) w 1) f c r _ o ∙ ⊎-elim
+    (λ (j : In (onFrame l t w k) c r). within-in (onFrame l t w k) f c r grey j ∙ sym (within-in (onFrame l t w (k + 1)) f c r grey (omega arith)))
+    (λ (p : In (onFrame l t w k) c r → ⊥). within-out (onFrame l t w k) f c r grey p ∙ sym (within-out (onFrame l t w (k + 1)) f c r grey
+    (λ g. let b : r ≤ origin + (t + k) = omega arith in ⊎-elim (λ e. o (omega arith)) (λ e. p (omega arith)) (eq-or-lt-of-le b))))
+    (in-or-out (onFrame l t w k) c r))
+    (in-or-out (onFrame l (t + k) w 1) c r)
+
+-- the rows of a rectangle up to its row j end within the frame, which is small
+pub rows-room : (fw fh n l t w h j : ℕ) → Canvas fw fh n (onFrame l t w h) → j ≤ h → ((t + j) * fw ≤ n) × (n ≤ 262144)
+rows-room fw fh n l t w h j canvas le =
+    let m : (t + j) * fw ≤ fh * fw = mul-le-mul-right fw (omega (arith, canvas .foot)) in
+    let p : fh * fw ≤ 512 * 512 = mul-le-mul (canvas .height) (canvas .width) in
+    omega (arith, canvas .size)
+
+-- a row of a rectangle ends within the frame, and its index fits
+module _ (fw fh n l t w h k : ℕ) (canvas : Canvas fw fh n (onFrame l t w h)) (less : k < h) where
+  pub row-room : ((t + k) * fw + l + w ≤ n) × (n ≤ 262144)
+  row-room = omega (arith, rows-room fw fh n l t w h (k + 1) canvas (omega arith), canvas .right)
+
+  pub row-fits : Fits w64 ((t + k) * fw)
+  row-fits = omega (arith, row-room)
+
+  pub row-start-fits : Fits w64 ((t + k) * fw + l)
+  row-start-fits = omega (arith, row-room)
+
+  pub row-end-fits : Fits w64 ((t + k) * fw + l + w)
+  row-end-fits = omega (arith, row-room)
+
+  pub row-end-in : (frame : List ℕ) → length frame ≡ n → (t + k) * fw + l + w ≤ length frame
+  row-end-in frame e = omega (arith, row-room)
+
+-- one row more, where the code lends the part of the frame from a to a + w
+pub rows-step : (fw fh l t w h k s : ℕ) (f : Layer) (g : ℕ → ℕ → ℕ) (xs frame part : List ℕ)
+    → Canvas fw fh (length xs) (onFrame l t w h) → RowsPainted fw l t w h k f xs frame → k < h
+    → part ≡ mapIndexed g s (take ((t + k) * fw + l + w - ((t + k) * fw + l)) (drop ((t + k) * fw + l) frame))
+    → ((i x : ℕ) → i < w → g (s + i) x ≡ f (origin + l + i) (origin + (t + k)) x)
+    → RowsPainted fw l t w h (k + 1) f xs (putMid ((t + k) * fw + l) ((t + k) * fw + l + w - ((t + k) * fw + l)) frame part)
+rows-step fw fh l t w h k s f g xs frame part canvas p less ep agree =
+    let a : ℕ = (t + k) * fw + l in
+    let room = row-room fw fh (length xs) l t w h k canvas less in
+    let right : l + w ≤ fw = omega (arith, canvas .right) in
+    let lw : length (take w (drop a frame)) ≡ w = length-take-le w (drop a frame) (rw length-drop (omega arith)) in
+    let same : mapIndexed g s (take w (drop a frame)) ≡ mapIndexed (λ i grey. f (origin + i % fw) (origin + i / fw) grey) a (take w (drop a frame)) =
+    mapIndexed-same g _ s a (take w (drop a frame)) (λ i x u.
+    let e : (t + k) * fw + (l + i) ≡ a + i = omega arith in
+    let d : (a + i) / fw ≡ t + k = rw e at (digits-div (t + k) {m = fw} {r = l + i} (omega arith)) in
+    let m : (a + i) % fw ≡ l + i = rw e at (digits-mod (t + k) {m = fw} {r = l + i} (omega arith)) in
+    let q : origin + (l + i) ≡ origin + l + i = omega arith in
+    agree i x (omega arith) ∙ rw (d, m, q)) in
+    let q : putMid a (a + w - a) frame part ≡ paint fw (within (onFrame l t w (k + 1)) f) xs =
+    rw (ep, add-sub-cancel-left a w, same) (paint-run fw a w (onFrame l (t + k) w 1) f frame (row-run fw l (t + k) w right) (omega arith))
+    ∙ ap (paint fw (within (onFrame l (t + k) w 1) f)) (p .painted)
+    ∙ paint-over fw (within (onFrame l t w k) f) (within (onFrame l (t + k) w 1) f) xs
+    ∙ paint-same fw _ (within (onFrame l t w (k + 1)) f) xs (rows-next l t w k f) in
+    record { painted = q; reach = omega arith; size = ap length q ∙ length-paint fw _ xs }
+
+pub rows-end : (fw l t w h k : ℕ) (f : Layer) (xs frame : List ℕ) → RowsPainted fw l t w h k f xs frame → h ≤ k → frame ≡ paint fw (within (onFrame l t w h) f) xs
+rows-end fw l t w h k f xs frame p past = let e : k ≡ h = omega arith in rw e at (p .painted)

@@ -1,0 +1,59 @@
+-- `fill_solid` meets its contract: what the clip shows of the area is filled, and it lies in the frame unless it is empty. Assumes nothing.
+use borrow.Author.Needs.{needs}
+use Rattle.geometry.proofs.Clips.{shown-left, shown-top, shown-canvas}
+use Rattle.geometry.proofs.Fills.{fill-unshown, fill-shown}
+use Rattle.geometry.proofs.fill_solid.Statement.{statement}
+use Rattle.geometry.proofs.fill_solid.Tie as tie
+
+intersection-requires : tie.Need-intersection-requires
+intersection-requires c κs = search needs
+
+is-empty-requires : tie.Need-is-empty-requires
+is-empty-requires c κs = search needs
+
+returns : tie.Need-returns
+returns c = search fill-unshown
+
+sub-left : tie.Need-sub-left
+sub-left c = search shown-left
+
+cast-left : tie.Need-cast-left
+cast-left c = search needs
+
+sub-top : tie.Need-sub-top
+sub-top c = search shown-top
+
+cast-top : tie.Need-cast-top
+cast-top c = search needs
+
+cast-width : tie.Need-cast-width
+cast-width c = search needs
+
+cast-height : tie.Need-cast-height
+cast-height c = search needs
+
+fill-box-requires : tie.Need-fill-box-requires
+fill-box-requires c κs = search shown-canvas
+
+same-length : tie.Need-same-length
+same-length c = search needs
+
+returns-2 : tie.Need-returns-2
+returns-2 c = search fill-shown
+
+pub fill-solid-spec : {M : Type 1} → statement M
+fill-solid-spec =
+    tie.close
+    (tie.spec
+    intersection-requires
+    is-empty-requires
+    returns
+    sub-left
+    cast-left
+    sub-top
+    cast-top
+    cast-width
+    cast-height
+    fill-box-requires
+    same-length
+    returns-2)

@@ -1,0 +1,6 @@
+pub mod Advances
+pub mod Ink
+pub mod Colors
+pub mod Painting
+pub mod Strings
+pub mod Glyphs

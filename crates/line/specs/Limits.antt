@@ -1,0 +1,50 @@
+-- Limits under which no sum of a line's drawing is too large: what its functions require, and what an accepted sheet gives.
+-- Assumes nothing.
+use Prim.Native.Nat.{ℕ, _≤_}
+use mathlib.Core.List.{List}
+use lib.ListN.{length}
+use Rattle.mapping.specs.Mapping.{listOf}
+use Rattle.line.specs.declared.DecorationDimensions.{DecorationDimensions}
+use Rattle.line.specs.declared.MonoFont.{MonoFont}
+use Rattle.line.specs.Line.{characterWidth, characterHeight, spacing}
+
+-- a font's numbers: document 01's limits, and 255 for what is stored in a byte
+pub record FontLimits (m : MonoFont) : Type 0 where
+  pub atlas-narrow : m .atlas .width ≤ 1_024
+  pub cw-small : characterWidth m ≤ 64
+  pub ch-small : characterHeight m ≤ 64
+  pub spacing-small : spacing m ≤ 64
+  pub baseline-small : m .baseline ≤ 255
+  pub strikethrough-near : m .strikethrough .offset ≤ 255
+  pub strikethrough-low : m .strikethrough .height ≤ 255
+  pub underline-near : m .underline .offset ≤ 255
+  pub underline-low : m .underline .height ≤ 255
+
+-- a font's pieces
+pub record PieceLimits (atlas mapping : List ℕ) : Type 0 where
+  pub atlas-short : length atlas ≤ 65_536
+  pub mapping-short : length (listOf mapping) ≤ 65_536
+
+-- n bytes of text
+pub record LengthLimit (n : ℕ) : Type 0 where
+  pub text-short : n ≤ 65_536
+
+-- n bytes of text at (x, top)
+pub record PlaceLimits (n x top : ℕ) : Type 0 where
+  pub text-short : n ≤ 65_536
+  pub near-x : x ≤ 8_388_608
+  pub near-top : top ≤ 8_388_608
+
+-- a character after a gap, from x on
+pub record CharacterLimits (gap x : ℕ) : Type 0 where
+  pub gap-small : gap ≤ 64
+  pub near-x : x ≤ 16_777_216
+
+-- a decoration of a line with its top edge at `top`
+pub record DecorationLimits (d : DecorationDimensions) (top : ℕ) : Type 0 where
+  pub near : d .offset ≤ 255
+  pub near-top : top ≤ 8_388_608
+
+-- the top edge of a line with decorations
+pub record TopLimit (top : ℕ) : Type 0 where
+  pub near-top : top ≤ 8_388_608

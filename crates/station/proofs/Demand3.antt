@@ -1,0 +1,127 @@
+-- Demand 3, whole: over every list of edits the patched run and the fresh run end alike, as the plain machine has it; and one accepted
+-- edit paints its rectangle only. Both are about the definitions that the contracts of the exported calls cite (`Calls`).
+-- Assumes nothing.
+use Prim.Native.Nat.{ℕ, _<_}
+use native.Mathlib.Omega.{arith}
+use mathlib.Core.Path.{_≡_, refl, sym, ap, _∙_}
+use mathlib.Core.Bool.{true, false}
+use lib.Dec.{eqb}
+use mathlib.Core.List.{List, [], _∷_}
+use lib.ListN.{length, getD}
+use borrow.Author.Tests.{eqb-true}
+use Rattle.geometry.specs.Rectangle.{covers}
+use Rattle.geometry.proofs.Layers.{length-paint}
+use Rattle.sheet.specs.Fields.{frameWidth}
+use Rattle.sheet.specs.Check.{check}
+use Rattle.sheet.specs.Edits.{Edit, refusal, edited}
+use Rattle.sheet.proofs.Refusals.{need-zero, orElse-zero}
+use Rattle.sheet.proofs.Acceptance.{accepted}
+use Rattle.sheet.proofs.Unchanged.{same-frameWidth}
+use Rattle.drawing.specs.Drawing.{pixelCount, columnOf, rowOf, page, repainted}
+use Rattle.drawing.proofs.Repaint.{length-page, same-pixelCount, repainted-inside, repainted-outside}
+use Rattle.station.specs.Calls.{boxReply, fits, editDamage, editCode, editReply, editSheet, editFrame}
+use Rattle.station.specs.Machine.{Outcome, patchedSheet, patchedFrame, patchedReplies, patchedRun, freshSheet, freshReplies, freshRun, plainStep, plainSheet, plainReplies, plainRun}
+use Rattle.station.proofs.Runs.{draw-zero, draw-page, step-accepted, step-size, on-sheet-sheet, on-sheet-reply, edit-sheet, edit-reply, edit-page}
+
+-- ---- the runs, edit by edit
+
+patched-sheet : (es : List Edit) (b : List ℕ) → check b ≡ 0 → patchedSheet b (page b) es ≡ plainSheet b es
+unfolding patchedSheet plainSheet
+patched-sheet [] b c = refl
+patched-sheet (e ∷ es) b c = rw (edit-sheet b e c (page b) (length-page b), edit-page b e c) (patched-sheet es (plainStep b e) (step-accepted b e c))
+
+patched-frame : (es : List Edit) (b : List ℕ) → check b ≡ 0 → patchedFrame b (page b) es ≡ page (plainSheet b es)
+unfolding patchedFrame plainSheet
+patched-frame [] b c = refl
+patched-frame (e ∷ es) b c = rw (edit-sheet b e c (page b) (length-page b), edit-page b e c) (patched-frame es (plainStep b e) (step-accepted b e c))
+
+patched-replies : (es : List Edit) (b : List ℕ) → check b ≡ 0 → patchedReplies b (page b) es ≡ plainReplies b es
+unfolding patchedReplies plainReplies
+patched-replies [] b c = refl
+patched-replies (e ∷ es) b c = rw (edit-reply b e c (page b) (length-page b), edit-sheet b e c (page b) (length-page b), edit-page b e c, patched-replies es (plainStep b e) (step-accepted b e c))
+
+fresh-sheet : (es : List Edit) (b : List ℕ) → check b ≡ 0 → freshSheet b es ≡ plainSheet b es
+unfolding freshSheet plainSheet
+fresh-sheet [] b c = refl
+fresh-sheet (e ∷ es) b c = rw (on-sheet-sheet b e c) (fresh-sheet es (plainStep b e) (step-accepted b e c))
+
+fresh-replies : (es : List Edit) (b : List ℕ) → check b ≡ 0 → freshReplies b es ≡ plainReplies b es
+unfolding freshReplies plainReplies
+fresh-replies [] b c = refl
+fresh-replies (e ∷ es) b c = rw (on-sheet-reply b e c, on-sheet-sheet b e c, fresh-replies es (plainStep b e) (step-accepted b e c))
+
+-- the last sheet is accepted and of the first one's size
+last-accepted : (es : List Edit) (b : List ℕ) → check b ≡ 0 → check (plainSheet b es) ≡ 0
+unfolding plainSheet
+last-accepted [] b c = c
+last-accepted (e ∷ es) b c = last-accepted es (plainStep b e) (step-accepted b e c)
+
+last-size : (es : List Edit) (b : List ℕ) → check b ≡ 0 → pixelCount (plainSheet b es) ≡ pixelCount b
+unfolding plainSheet
+last-size [] b c = refl
+last-size (e ∷ es) b c = last-size es (plainStep b e) (step-accepted b e c) ∙ step-size b e c
+
+-- ---- the theorems
+
+-- "Two runs start from one accepted sheet, each on its own copy and its own frame of the sheet's size, holding any greys. The patched
+-- run draws, then makes a list of the three edits ... The fresh run makes that list on the sheet alone and draws at the end. ... For
+-- every list of these edits, refused ones included, after it the two share the same sheet bytes, the same grey in every pixel and the
+-- same reply to each edit, all as document 01's plain machine has them."
+--   one accepted sheet: b with check b ≡ 0; its own frame of the sheet's size, holding any greys: frame and frame′
+--   every list, refused ones included: es, with no condition
+--   the same sheet bytes, grey in every pixel and replies: equal Outcomes, sheet, frame and replies (and both drawings reply 0)
+--   as the plain machine has them: both equal plainRun, which sees the edits only
+pub record Demand3 (b frame frame′ : List ℕ) (es : List Edit) : Type 0 where
+  pub patched-as-plain : patchedRun b frame es ≡ plainRun b es
+  pub fresh-as-plain : freshRun b frame′ es ≡ plainRun b es
+  pub patched-as-fresh : patchedRun b frame es ≡ freshRun b frame′ es
+
+pub demand-3 : (b frame frame′ : List ℕ) (es : List Edit) → check b ≡ 0 → length frame ≡ pixelCount b → length frame′ ≡ pixelCount b → Demand3 b frame frame′ es
+unfolding patchedRun freshRun plainRun
+demand-3 b frame frame′ es c n n′ = record { patched-as-plain = patched; fresh-as-plain = fresh; patched-as-fresh = patched ∙ sym fresh }
+  where
+    patched : patchedRun b frame es ≡ plainRun b es
+    patched = rw (draw-page b frame c n, draw-zero b frame c n, patched-sheet es b c, patched-frame es b c, patched-replies es b c)
+
+    fits : length frame′ ≡ pixelCount (plainSheet b es)
+    fits = n′ ∙ sym (last-size es b c)
+
+    fresh : freshRun b frame′ es ≡ plainRun b es
+    fresh = rw (fresh-sheet es b c, draw-page (plainSheet b es) frame′ (last-accepted es b c) fits, draw-zero (plainSheet b es) frame′ (last-accepted es b c) fits, fresh-replies es b c)
+
+-- "And for every single accepted edit, over a frame of the sheet's size holding any greys: inside document 01's rectangle stands the
+-- fresh drawing of the edited sheet, outside it each pixel keeps its grey."
+--   a single accepted edit: e with editCode b frame e ≡ 0, where nothing else is asked of b; a frame holding any greys: frame
+--   document 01's rectangle: editDamage b e, the one that the reply gives
+--   the fresh drawing of the edited sheet: page (edited b e), and the edited sheet is what the call leaves
+pub record OneEdit (b frame : List ℕ) (e : Edit) : Type 0 where
+  pub replied : editReply b frame e ≡ boxReply 0 (editDamage b e)
+  pub sheet : editSheet b frame e ≡ edited b e
+  pub same-size : length (editFrame b frame e) ≡ length frame
+  pub inside : (k : ℕ) → k < length frame → covers (editDamage b e) (columnOf b k) (rowOf b k) ≡ true → getD (editFrame b frame e) k 0 ≡ getD (page (edited b e)) k 0
+  pub outside : (k : ℕ) → k < length frame → covers (editDamage b e) (columnOf b k) (rowOf b k) ≡ false → getD (editFrame b frame e) k 0 ≡ getD frame k 0
+
+pub one-edit : (b frame : List ℕ) (e : Edit) → editCode b frame e ≡ 0 → OneEdit b frame e
+unfolding editReply editSheet editFrame editCode repainted
+one-edit b frame e z = record {
+  replied = rw z;
+  sheet = rw z;
+  same-size = rw z (length-paint (frameWidth (edited b e)) _ frame);
+  inside = λ k l q. rw z (repainted-inside (edited b e) k (editDamage b e) frame sized (placed k l) (rw wide q));
+  outside = λ k l q. rw z (repainted-outside (edited b e) k (editDamage b e) frame sized (placed k l) (rw wide q));
+}
+  where
+    checked : (check b ≡ 0) × (fits b frame (refusal b e) ≡ 0)
+    checked = orElse-zero (check b) _ z
+
+    allowed : (eqb (length frame) (pixelCount b) ≡ true) × (refusal b e ≡ 0)
+    allowed = need-zero (eqb (length frame) (pixelCount b)) 10 (refusal b e) (checked .1)
+
+    wide : frameWidth (edited b e) ≡ frameWidth b
+    wide = same-frameWidth b e (accepted b (checked .0)) (allowed .1)
+
+    sized : length frame ≡ pixelCount (edited b e)
+    sized = eqb-true (length frame) (pixelCount b) (allowed .0) ∙ sym (same-pixelCount b e (accepted b (checked .0)) (allowed .1))
+
+    placed : (k : ℕ) → k < length frame → k < pixelCount (edited b e)
+    placed k l = omega (arith, sized)

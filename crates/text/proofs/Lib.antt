@@ -1,0 +1,4 @@
+pub mod Lines
+pub mod Exact
+pub mod Ink
+pub mod StarredLines
