@@ -8,7 +8,7 @@ ghost use lib.ListN.{length};
 ghost use Rattle.geometry.specs.Layer.{origin, mapIndexed, within, paint, paintIn};
 ghost use Rattle.geometry.specs.Canvas.{Canvas, onFrame};
 ghost use Rattle.atlas.specs.Atlas.{image, glyph};
-ghost use Rattle.atlas.specs.Row.{glyphCorner, blend as blended, imageRow, bitsAt, bitRow, SubImage};
+ghost use Rattle.atlas.specs.Row.{glyphCorner, blend, imageRow, bitsAt, bitRow, SubImage};
 
 // An atlas of glyphs: embedded-graphics' `ImageRaw` of one bit a pixel, and the size of a glyph's cell in it.
 pub struct Atlas {
@@ -75,7 +75,7 @@ fn bits_at(bytes: &[u8], stride: usize, x: usize, y: usize) -> u32
 
 // What a pixel becomes: the text's grey where the atlas's pixel is on and the background's where it is off, if set.
 fn blend(on: bool, text: OptionalGrey, background: OptionalGrey, grey: u8) -> u8
-    ensures { λ r. ⌜ r ≡ blended on text background grey ⌝ }
+    ensures { λ r. ⌜ r ≡ blend on text background grey ⌝ }
 {
     if on {
         match text {

@@ -1,16 +1,18 @@
 -- Records read by value: where an accepted sheet's pieces lie, and what is read is what the definitions read. Assumes nothing.
-use Prim.Native.Nat.{ℕ, _+_, _≤_}
+use Prim.Native.Nat.{ℕ, _+_, _^_, _≤_, _<_}
 use mathlib.Core.Path.{_≡_}
 use mathlib.Core.List.{List}
 use lib.ListN.{length, getD}
 use native.Mathlib.Omega.{arith}
 use Rattle.geometry.specs.declared.OptionalGrey.{OptionalGrey}
 use Rattle.line.specs.declared.DecorationColor.{DecorationColor}
+use Rattle.line.specs.declared.MonoFont.{MonoFont}
 use Rattle.line.specs.declared.MonoTextStyle.{MonoTextStyle}
+use Rattle.line.specs.Limits.{FontLimits}
 use Rattle.sheet.specs.Fields
 use Rattle.sheet.specs.Fields.{u16, u32, fontAt, itemAt}
 use Rattle.sheet.specs.Requires.{FontListed, ItemListed}
-use Rattle.sheet.specs.Records.{optionalGrey, decorationColor, monoTextStyle}
+use Rattle.sheet.specs.Records.{optionalGrey, decorationColor, monoFont, monoTextStyle}
 
 -- ---- pieces lie in the file
 
@@ -29,6 +31,24 @@ pub font-listed : (b : List ℕ) (n f : ℕ) → ItemListed b n → f ≡ Fields
 font-listed b n f g e = record { accepted = g .accepted; listed = rw e (g .accepted .item-fits n (g .listed) .font-there) }
 
 -- ---- what is read
+
+-- a font of an accepted sheet is within the limits of drawing: its fields that are not tested are bytes
+pub font-limits : (b : List ℕ) (n : ℕ) (m : MonoFont) → FontListed b n → m ≡ monoFont b (fontAt n) → m .baseline < 2 ^ 8 → m .strikethrough .offset < 2 ^ 8 → m .strikethrough .height < 2 ^ 8
+    → m .underline .offset < 2 ^ 8 → m .underline .height < 2 ^ 8 → FontLimits m
+unfolding monoFont
+font-limits b n m g e base so sh uo uh =
+    let f = g .accepted .font-fits n (g .listed) in
+    record {
+      atlas-narrow = rw e (f .atlas-narrow);
+      cw-small = rw e (f .cw-small);
+      ch-small = rw e (f .ch-small);
+      spacing-small = rw e (f .spacing-small);
+      baseline-small = omega arith;
+      strikethrough-near = omega arith;
+      strikethrough-low = omega arith;
+      underline-near = omega arith;
+      underline-low = omega arith;
+    }
 
 pub style-is : (b : List ℕ) (n o : ℕ) (text background : OptionalGrey) (underline strikethrough : DecorationColor) → o ≡ itemAt b n
     → text ≡ optionalGrey (getD b (o + 13) 0) (getD b (o + 14) 0) → background ≡ optionalGrey (getD b (o + 15) 0) (getD b (o + 16) 0)

@@ -18,6 +18,8 @@ use text::Alignment;
 use text::LineHeight;
 use text::TextStyle;
 ghost use mathlib.Core.Path.{_≡_};
+ghost use Prim.Native.Nat.{_≤_};
+ghost use Rattle.line.specs.Limits.{FontLimits};
 ghost use Rattle.sheet.specs.Fields.{coordinate, fontAt, itemAt, fontNumber, atlasBytes, mappingBytes, textBytes};
 ghost use Rattle.sheet.specs.Requires.{FontListed, ItemListed};
 ghost use Rattle.sheet.specs.Records.{optionalGrey, decorationColor, alignment, baseline, lineHeight, monoFont, monoTextStyle, textStyle, itemOf};
@@ -26,6 +28,7 @@ ghost use Rattle.sheet.specs.Records.{optionalGrey, decorationColor, alignment,
 pub fn font_at(sheet: &[u8], n: u32) -> MonoFont
     requires { ⌜ FontListed (now sheet) n ⌝ }
     ensures { λ r. ⌜ r ≡ monoFont (now (sheet .entry)) (fontAt n) ⌝ }
+    ensures { λ r. ⌜ FontLimits r ⌝ }
 {
     let o = font_offset(n);
     let cell_size = Size {
@@ -92,7 +95,7 @@ pub fn text_bytes(sheet: &[u8], n: u32) -> &[u8]
 
 // A signed number of 2 bytes as a coordinate.
 fn coordinate(n: u16) -> u32
-    ensures { λ r. ⌜ r ≡ coordinate n ⌝ }
+    ensures { λ r. ⌜ (r ≡ coordinate n) × (r ≤ 4_194_304) ⌝ }
 {
     let wide = n as u32;
     if wide < 32768 {
@@ -105,6 +108,7 @@ fn coordinate(n: u16) -> u32
 pub fn position(sheet: &[u8], n: u32) -> Point
     requires { ⌜ ItemListed (now sheet) n ⌝ }
     ensures { λ r. ⌜ r ≡ itemOf (now (sheet .entry)) (itemAt (now (sheet .entry)) n) .position ⌝ }
+    ensures { λ r. ⌜ (r .x ≤ 4_194_304) × (r .y ≤ 4_194_304) ⌝ }
 {
     let o = item_offset(sheet, n);
     Point {

@@ -1,5 +1,6 @@
 -- Each return follows from the test.
 use borrow.Author.Needs.{needs}
+use native.Mathlib.Omega.{arith}
 use Rattle.sheet.specs.Fields.{coordinate}
 use Rattle.characters.proofs.Tests.{tests}
 use Rattle.records.proofs.coordinate.Statement.{statement}
@@ -10,7 +11,7 @@ add-result c = search needs
 
 returns : tie.Need-returns
 unfolding coordinate
-returns c = search tests
+returns c = (search tests, omega arith)
 
 add-result-2 : tie.Need-add-result-2
 add-result-2 c = search needs
@@ -20,7 +21,7 @@ sub-result c = search needs
 
 returns-2 : tie.Need-returns-2
 unfolding coordinate
-returns-2 c = search tests
+returns-2 c = (search tests, omega arith)
 
 pub coordinate-spec : {M : Type 1} → statement M
 coordinate-spec = tie.close (tie.spec add-result returns add-result-2 sub-result returns-2)

@@ -1,5 +1,6 @@
 -- Each coordinate is read where the record stores it.
 use borrow.Author.Needs.{needs}
+use native.Mathlib.Omega.{arith}
 use Rattle.sheet.specs.Records.{itemOf}
 use Rattle.records.proofs.position.Statement.{statement}
 use Rattle.records.proofs.position.Tie as tie
@@ -30,7 +31,7 @@ coordinate-requires-2 c κs = search needs
 
 returns : tie.Need-returns
 unfolding itemOf
-returns c = cc
+returns c = (cc, omega arith)
 
 pub position-spec : {M : Type 1} → statement M
 position-spec =
