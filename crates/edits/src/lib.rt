@@ -1,9 +1,9 @@
 // The three edits on an accepted sheet's bytes: whether each is refused, and what it stores.
+use limits::good_modes;
 use sheet::fields::item_count;
 use sheet::fields::item_offset;
 use sheet::fields::u16_at;
 use sheet::fields::u32_at;
-use sheet::limits::good_modes;
 ghost use mathlib.Core.Path.{_≡_};
 ghost use mathlib.Core.Bool.{true};
 ghost use mathlib.Core.List.{_++_};

@@ -12,7 +12,8 @@ use Rattle.characters.specs.Utf8.{wellFormed}
 use Rattle.mapping.specs.Mapping.{listOf}
 use Rattle.mapping.specs.Mapping
 use Rattle.sheet.specs.Fields
-use Rattle.sheet.specs.Check.{checkHeader, isLaidOut, fontLimits, checkFont, goodModes, itemLimits, itemNumbers, zeros, checkItem, firstRefusal, fontRefusal, itemRefusal, checkFonts, checkItems, check}
+use Rattle.limits.specs.Limits.{fontLimits, goodModes, itemLimits}
+use Rattle.sheet.specs.Check.{checkHeader, isLaidOut, checkFont, itemNumbers, zeros, checkItem, firstRefusal, fontRefusal, itemRefusal, checkFonts, checkItems, check}
 use Rattle.sheet.specs.Accepted.{FontFits, ItemFits, Accepted}
 use Rattle.sheet.proofs.Refusals.{need-zero, orElse-zero, all-true}
 use Rattle.sheet.proofs.LaidOut.{headed, laid-out}

@@ -9,14 +9,14 @@ use lib.Seq.{sets}
 use native.Mathlib.Omega.{arith}
 use borrow.Author.Tests.{ltb-true, lt-ltb, le-ltb}
 use Rattle.line.specs.declared.MonoTextStyle.{MonoTextStyle}
-use Rattle.sheet.specs.Fields.{u16, le16, coordinate, itemCount, itemAt, slotOffset, textLength, fontNumber}
+use Rattle.sheet.specs.Fields.{u16, le16, coordinate, itemCount, itemAt, slotOffset, textLength}
 use Rattle.sheet.specs.Accepted.{Accepted}
-use Rattle.sheet.specs.Records.{optionalGrey, decorationColor, font, monoTextStyle, textStyle, itemOf, item}
+use Rattle.sheet.specs.Records.{optionalGrey, decorationColor, monoTextStyle, textStyle, itemOf, item}
 use Rattle.sheet.specs.Edits.{newText, newPlace, newStyle, inRange, textRefusal, placeRefusal, styleRefusal, biased, putText, putPlace, putStyle}
 use Rattle.sheet.proofs.Bytes.{u16-sets, same-u16, same-u32, same-part}
 use Rattle.sheet.proofs.Stores.{length-putPlace, length-putStyle, putText-other, putPlace-other, putStyle-other, putText-length, putText-text, putPlace-x, putPlace-y, putStyle-at}
 use Rattle.sheet.proofs.Allowed.{text-allowed, place-allowed, style-allowed}
-use Rattle.sheet.proofs.Unchanged.{same-monoTextStyle, same-textStyle, same-fontCount, same-font}
+use Rattle.sheet.proofs.Unchanged.{same-monoTextStyle, same-textStyle, same-fontCount}
 
 -- ---- a place stored is the place read
 

@@ -1,5 +1,4 @@
 pub mod Refusals
-pub mod Modes
 pub mod LaidOut
 pub mod Acceptance
 pub mod Loops

@@ -13,9 +13,11 @@ use Rattle.mapping.specs.Mapping
 use Rattle.sheet.specs.declared.Reach.{Reach}
 use Rattle.sheet.specs.declared.Reach.the-variants.{To, Off}
 use Rattle.sheet.specs.Fields.{u16, u32, part, fontsOffset, itemsOffset, fontCount, itemCount, fontAt, itemAt, piecesAt}
-use Rattle.sheet.specs.Check.{fontsEnd, slotsEnd, thenSlots, endsAt, layoutTests, isLaidOut, fontLimits, checkFont, itemLimits, itemNumbers, zeros, checkItem, checkHeader, checkFonts, checkItems, check}
+use Rattle.limits.specs.Limits.{fontLimits, itemLimits}
+use Rattle.sheet.specs.Check.{fontsEnd, slotsEnd, thenSlots, endsAt, layoutTests, isLaidOut, checkFont, itemNumbers, zeros, checkItem, checkHeader, checkFonts, checkItems, check}
 use Rattle.sheet.specs.Accepted.{Headed, FontIn, ItemIn, LaidOut}
-use Rattle.sheet.proofs.Refusals.{and-false, orElse-first}
+use Rattle.limits.proofs.Modes.{and-false}
+use Rattle.sheet.proofs.Refusals.{orElse-first}
 use Rattle.sheet.proofs.LaidOut.{headed, records-in, laid-out}
 use Rattle.sheet.proofs.Acceptance.{text-in-slot}
 

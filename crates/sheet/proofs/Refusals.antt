@@ -1,7 +1,7 @@
 -- What tests in a row tell: where the refusal is 0 each test holds, and a refusal that is not 0 is the first. Assumes nothing.
 use Prim.Native.Nat.{ℕ, zero, suc}
 use mathlib.Core.Path.{_≡_, refl}
-use mathlib.Core.Bool.{Bool, true, false, _&&_}
+use mathlib.Core.Bool.{Bool, true, false}
 use mathlib.Core.List.{List, [], _∷_}
 use native.Mathlib.Omega.{arith}
 use lib.ListN.{getD}
@@ -19,10 +19,6 @@ orElse-zero (suc n) rest h = absurd (omega arith)
 pub orElse-first : (n rest : ℕ) → (n ≡ 0 → ⊥) → orElse n rest ≡ n
 orElse-first zero rest h = absurd (h refl)
 orElse-first (suc n) rest h = refl
-
-pub and-false : (t : Bool) → (t && false) ≡ false
-and-false true = refl
-and-false false = refl
 
 -- test number i of a list of tests that all hold
 pub all-true : (l : List Bool) → all l ≡ true → (i : ℕ) → getD l i true ≡ true

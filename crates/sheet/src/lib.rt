@@ -20,7 +20,6 @@ ghost use Rattle.sheet.specs.Check.{checkHeader, checkFont, checkFonts, 
 ghost use Rattle.sheet.specs.Accepted.{FontIn, ItemIn, LaidOut};
 
 pub mod fields;
-pub mod limits;
 pub mod pieces;
 
 // Where the pieces of some records end, or that one of them is out of place.

@@ -1,6 +1,7 @@
 -- A file shorter than its header is refused at once; else the header's numbers are those that the definition reads.
 use borrow.Author.Needs.{needs}
-use Rattle.sheet.specs.Check.{headerRefusal, checkHeader}
+use Rattle.limits.specs.Limits.{headerRefusal}
+use Rattle.sheet.specs.Check.{checkHeader}
 use Rattle.characters.proofs.Tests.{tests}
 use Rattle.sheet.proofs.check_header.Statement.{statement}
 use Rattle.sheet.proofs.check_header.Tie as tie

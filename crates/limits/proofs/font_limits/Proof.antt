@@ -1,8 +1,8 @@
 -- Each return follows from the tests passed and the one that failed.
-use Rattle.sheet.specs.Check.{fontLimits}
+use Rattle.limits.specs.Limits.{fontLimits}
 use Rattle.characters.proofs.Tests.{tests}
-use Rattle.sheet.proofs.limits.font_limits.Statement.{statement}
-use Rattle.sheet.proofs.limits.font_limits.Tie as tie
+use Rattle.limits.proofs.font_limits.Statement.{statement}
+use Rattle.limits.proofs.font_limits.Tie as tie
 
 returns : tie.Need-returns
 unfolding fontLimits

@@ -1,6 +1,6 @@
 // Document 01's limits, on numbers: each test of a record's fields, with its refusal.
 ghost use mathlib.Core.Path.{_≡_};
-ghost use Rattle.sheet.specs.Check.{headerRefusal, fontLimits, goodModes, itemLimits};
+ghost use Rattle.limits.specs.Limits.{headerRefusal, fontLimits, goodModes, itemLimits};
 
 // Refusals 1 to 4.
 pub fn header_refusal(

@@ -2,10 +2,10 @@
 use lib.Dec.{lit<}
 use borrow.Author.Needs.{needs}
 use native.Mathlib.Nat.{lt-of-le-of-lt, mul-le-mul}
-use Rattle.sheet.specs.Check.{headerRefusal}
+use Rattle.limits.specs.Limits.{headerRefusal}
 use Rattle.characters.proofs.Tests.{tests}
-use Rattle.sheet.proofs.limits.header_refusal.Statement.{statement}
-use Rattle.sheet.proofs.limits.header_refusal.Tie as tie
+use Rattle.limits.proofs.header_refusal.Statement.{statement}
+use Rattle.limits.proofs.header_refusal.Tie as tie
 
 returns : tie.Need-returns
 unfolding headerRefusal

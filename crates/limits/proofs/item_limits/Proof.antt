@@ -1,11 +1,10 @@
 -- Each return follows from the tests passed and the one that failed.
 use borrow.Author.Needs.{needs}
-use Rattle.sheet.proofs.Refusals.{and-false}
-use Rattle.sheet.proofs.Modes.{mode-unknown, item-passes}
-use Rattle.sheet.specs.Check.{itemLimits}
+use Rattle.limits.proofs.Modes.{and-false, mode-unknown, item-passes}
+use Rattle.limits.specs.Limits.{itemLimits}
 use Rattle.characters.proofs.Tests.{tests}
-use Rattle.sheet.proofs.limits.item_limits.Statement.{statement}
-use Rattle.sheet.proofs.limits.item_limits.Tie as tie
+use Rattle.limits.proofs.item_limits.Statement.{statement}
+use Rattle.limits.proofs.item_limits.Tie as tie
 
 returns : tie.Need-returns
 unfolding itemLimits

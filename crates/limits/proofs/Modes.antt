@@ -1,11 +1,14 @@
--- The limits of an item by what a call told of its modes. Assumes nothing.
+-- Tests in a row that all must hold, and the limits of an item by what a call told of its modes. Assumes nothing.
 use Prim.Native.Nat.{ℕ, _≤_, _<_}
 use mathlib.Core.Path.{_≡_, refl}
-use mathlib.Core.Bool.{Bool, true, false, not}
+use mathlib.Core.Bool.{Bool, true, false, not, _&&_}
 use lib.Dec.{ltb, leb}
 use borrow.Author.Tests.{le-leb, lt-ltb, eq-eqb}
-use Rattle.sheet.specs.Check.{goodModes, itemLimits}
-use Rattle.sheet.proofs.Refusals.{and-false}
+use Rattle.limits.specs.Limits.{goodModes, itemLimits}
+
+pub and-false : (t : Bool) → (t && false) ≡ false
+and-false true = refl
+and-false false = refl
 
 not-not : (t : Bool) → not (not t) ≡ t
 not-not true = refl

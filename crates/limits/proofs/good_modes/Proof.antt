@@ -1,8 +1,8 @@
 -- Each return follows from the tests passed and the one that failed.
-use Rattle.sheet.specs.Check.{goodModes}
+use Rattle.limits.specs.Limits.{goodModes}
 use Rattle.characters.proofs.Tests.{tests}
-use Rattle.sheet.proofs.limits.good_modes.Statement.{statement}
-use Rattle.sheet.proofs.limits.good_modes.Tie as tie
+use Rattle.limits.proofs.good_modes.Statement.{statement}
+use Rattle.limits.proofs.good_modes.Tie as tie
 
 returns : tie.Need-returns
 unfolding goodModes
