@@ -1,1 +1,3 @@
 pub mod Drawing
+pub mod Frames
+pub mod Items
