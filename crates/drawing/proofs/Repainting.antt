@@ -26,7 +26,7 @@ use Rattle.sheet.proofs.Acceptance.{accepted}
 use Rattle.sheet.proofs.Allowed.{listed}
 use Rattle.sheet.proofs.Unchanged.{same-frameWidth, same-frameHeight, same-paper, same-itemCount, same-other, same-itemFont}
 use Rattle.drawing.specs.Drawing.{numbersFrom, order, itemLayer, itemsLayer, pageLayer, freshDrawing, pixelCount, columnOf, rowOf, page, itemInk, damage, repainted}
-use Rattle.drawing.proofs.Damage.{damage-before, damage-after}
+use Rattle.drawing.proofs.DamageHolds.{damage-before, damage-after}
 
 -- ---- the order of drawing
 
