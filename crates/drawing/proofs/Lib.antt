@@ -5,3 +5,4 @@ pub mod Painting
 pub mod Readings
 pub mod EditedInk
 pub mod Changes
+pub mod Bounds
