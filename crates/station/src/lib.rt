@@ -1,6 +1,8 @@
 // The replies of the exported calls: a refused call has its number for a code and zeros.
 
+mod codes;
 pub mod page;
+mod replies;
 
 // A code and a value: an index, yes or no as 1 or 0, or a length.
 #[repr(C)]

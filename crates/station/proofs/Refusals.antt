@@ -1,0 +1,132 @@
+-- The codes of the calls: each is the first refusal of two, and what a code of 0 tells. Assumes nothing.
+use Prim.Native.Nat.{ℕ, zero, suc, _*_, _^_, _≤_, _<_}
+use native.Mathlib.Omega.{arith}
+use mathlib.Core.Path.{_≡_, refl, sym, ap, _∙_}
+use mathlib.Core.Bool.{Bool, true, false}
+use mathlib.Core.List.{List, _++_}
+use lib.Dec.{ltb, leb, eqb}
+use lib.ListN.{length}
+use mir.Syntax.{w64}
+use mir.Val.{Fits}
+use borrow.Author.Tests.{eq-eqb, ne-eqb, le-leb, lt-leb, ltb-true, leb-true, eqb-true}
+use Rattle.characters.specs.Refusal.{need, orElse}
+use Rattle.sheet.specs.Fields.{frameWidth, frameHeight, fontCount, itemCount}
+use Rattle.sheet.specs.Check.{check}
+use Rattle.sheet.specs.Accepted.{Accepted}
+use Rattle.sheet.specs.Requires.{FontListed, ItemListed, EditAllowed}
+use Rattle.sheet.specs.Edits.{Edit, refusal}
+use Rattle.sheet.proofs.Refusals.{need-zero, orElse-zero, orElse-first}
+use Rattle.sheet.proofs.Acceptance.{accepted}
+use Rattle.drawing.specs.Drawing.{pixelCount}
+use Rattle.drawing.specs.Frames.{Framed}
+use Rattle.station.specs.Page.{netpbm, pageHeader}
+use Rattle.station.specs.Calls.{isThere, fits, fontCode, itemCode, drawCode, drawItemCode, whitespaceCode, editCode, onSheetCode, pageCode}
+
+-- ---- each code is the first refusal of two
+
+pub fontCode-is : (b : List ℕ) (n : ℕ) → fontCode b n ≡ orElse (check b) (isThere n (fontCount b) 0)
+unfolding fontCode
+fontCode-is b n = refl
+
+pub itemCode-is : (b : List ℕ) (n : ℕ) → itemCode b n ≡ orElse (check b) (isThere n (itemCount b) 0)
+unfolding itemCode
+itemCode-is b n = refl
+
+pub onSheetCode-is : (b : List ℕ) (e : Edit) → onSheetCode b e ≡ orElse (check b) (refusal b e)
+unfolding onSheetCode
+onSheetCode-is b e = refl
+
+pub drawCode-is : (b frame : List ℕ) → drawCode b frame ≡ orElse (check b) (fits b frame 0)
+unfolding drawCode
+drawCode-is b frame = refl
+
+-- a test between two refusals goes with the first
+need-between : (n : ℕ) (t : Bool) (m rest : ℕ) → orElse n (need t (suc m) rest) ≡ orElse (orElse n (need t (suc m) 0)) rest
+need-between zero true m rest = refl
+need-between zero false m rest = refl
+need-between (suc n) t m rest = refl
+
+module _ (b frame : List ℕ) where
+  after-frame : (rest : ℕ) → orElse (check b) (fits b frame rest) ≡ orElse (drawCode b frame) rest
+  unfolding drawCode
+  after-frame rest = need-between (check b) (eqb (length frame) (pixelCount b)) 10 rest
+
+  pub drawItemCode-is : (n : ℕ) → drawItemCode b frame n ≡ orElse (drawCode b frame) (isThere n (itemCount b) 0)
+  unfolding drawItemCode
+  drawItemCode-is n = after-frame (isThere n (itemCount b) 0)
+
+  pub whitespaceCode-is : (n width : ℕ) → whitespaceCode b frame n width ≡ orElse (drawItemCode b frame n) (need (leb width 65_535) 18 0)
+  unfolding whitespaceCode
+  whitespaceCode-is n width =
+      let there = ltb n (itemCount b) in
+      let narrow = need (leb width 65_535) 18 0 in
+      after-frame (need there 12 narrow) ∙ need-between (drawCode b frame) there 11 narrow ∙ ap (λ (m : ℕ). orElse m narrow) (sym (drawItemCode-is n))
+
+  pub editCode-is : (e : Edit) → editCode b frame e ≡ orElse (drawCode b frame) (refusal b e)
+  unfolding editCode
+  editCode-is e = after-frame (refusal b e)
+
+  pub pageCode-is : (output : List ℕ) → pageCode b frame output ≡ orElse (drawCode b frame) (need (leb (length (netpbm b frame)) (length output)) 17 0)
+  unfolding pageCode
+  pageCode-is output = after-frame (need (leb (length (netpbm b frame)) (length output)) 17 0)
+
+-- ---- ways out
+
+module _ (n code rest : ℕ) (e : n ≡ code) where
+  pub refused-first : (n ≡ 0 → ⊥) → n ≡ orElse code rest
+  refused-first h = rw (← e) (sym (orElse-first n rest h))
+
+  pub refused-then : (r : ℕ) → n ≡ 0 → r ≡ rest → r ≡ orElse code rest
+  refused-then r z q = rw (← e, z) q
+
+-- ---- what a code of 0 tells
+
+pub header-in : (b : List ℕ) → Accepted b → 24 ≤ length b
+header-in b g = g .laid-out .headed .least
+
+pub checked : (b : List ℕ) (n : ℕ) → n ≡ check b → n ≡ 0 → Accepted b
+checked b n e z = accepted b (sym e ∙ z)
+
+module _ (b frame : List ℕ) (n : ℕ) (e : n ≡ drawCode b frame) (z : n ≡ 0) where
+  pub framed : Framed b frame
+  unfolding drawCode
+  framed =
+      let p = orElse-zero (check b) (fits b frame 0) (sym e ∙ z) in
+      let q = need-zero (eqb (length frame) (pixelCount b)) 10 0 (p .1) in
+      record { accepted = accepted b (p .0); sized = eqb-true _ _ (q .0) }
+
+  pub framed-accepted : Accepted b
+  framed-accepted = framed .accepted
+
+-- ---- 11
+
+module _ (b : List ℕ) (n w h : ℕ) (e : n ≡ check b) (z : n ≡ 0) (ew : w ≡ frameWidth b) (eh : h ≡ frameHeight b) where
+  pub pixels-fit : Fits w64 (w * h)
+  pixels-fit = let a = accepted b (sym e ∙ z) .laid-out .headed .area in record { fits = rw (ew, eh) (omega (arith, a)) }
+
+  module _ (frame : List ℕ) where
+    pub frame-fits : length frame ≡ w * h → 0 ≡ drawCode b frame
+    unfolding drawCode
+    frame-fits q = rw (← e, z, ← ew, ← eh, eq-eqb (length frame) (w * h) q)
+
+    pub frame-unfit : (length frame ≡ w * h → ⊥) → 11 ≡ drawCode b frame
+    unfolding drawCode
+    frame-unfit q = rw (← e, z, ← ew, ← eh, ne-eqb (length frame) (w * h) q)
+
+-- ---- 12
+
+pub there-of : (n k count r : ℕ) → k ≡ count → r ≡ isThere n k 0 → r ≡ isThere n count 0
+there-of n k count r e q = rw (← e) q
+
+-- ---- 17
+
+module _ (b frame output : List ℕ) (n w h len : ℕ) (e : n ≡ drawCode b frame) (z : n ≡ 0) (ew : w ≡ frameWidth b) (eh : h ≡ frameHeight b) (el : len ≡ length (pageHeader w h ++ frame)) where
+  length-netpbm : length (netpbm b frame) ≡ len
+  unfolding netpbm
+  length-netpbm = rw (← ew, ← eh) (sym el)
+
+  pub page-fits : len ≤ length output → 0 ≡ pageCode b frame output
+  page-fits q = rw (pageCode-is b frame output, ← e, z, length-netpbm, le-leb len (length output) q)
+
+  pub page-unfit : length output < len → 17 ≡ pageCode b frame output
+  page-unfit q = rw (pageCode-is b frame output, ← e, z, length-netpbm, lt-leb len (length output) q)
