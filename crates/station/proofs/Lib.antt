@@ -3,3 +3,4 @@ pub mod Demand3
 pub mod Pages
 pub mod Refusals
 pub mod Signed
+pub mod Calls

@@ -1,5 +1,5 @@
 -- The codes of the calls: each is the first refusal of two, and what a code of 0 tells. Assumes nothing.
-use Prim.Native.Nat.{ℕ, zero, suc, _*_, _^_, _≤_, _<_}
+use Prim.Native.Nat.{ℕ, zero, suc, _*_, _≤_, _<_}
 use native.Mathlib.Omega.{arith}
 use mathlib.Core.Path.{_≡_, refl, sym, ap, _∙_}
 use mathlib.Core.Bool.{Bool, true, false}
@@ -84,19 +84,79 @@ module _ (n code rest : ℕ) (e : n ≡ code) where
 pub header-in : (b : List ℕ) → Accepted b → 24 ≤ length b
 header-in b g = g .laid-out .headed .least
 
-pub checked : (b : List ℕ) (n : ℕ) → n ≡ check b → n ≡ 0 → Accepted b
-checked b n e z = accepted b (sym e ∙ z)
+passed : (n code rest whole : ℕ) → whole ≡ orElse code rest → n ≡ whole → n ≡ 0 → (code ≡ 0) × (rest ≡ 0)
+passed n code rest whole w e z = orElse-zero code rest (sym w ∙ sym e ∙ z)
 
-module _ (b frame : List ℕ) (n : ℕ) (e : n ≡ drawCode b frame) (z : n ≡ 0) where
-  pub framed : Framed b frame
-  unfolding drawCode
-  framed =
-      let p = orElse-zero (check b) (fits b frame 0) (sym e ∙ z) in
-      let q = need-zero (eqb (length frame) (pixelCount b)) 10 0 (p .1) in
-      record { accepted = accepted b (p .0); sized = eqb-true _ _ (q .0) }
+there : (k count : ℕ) → isThere k count 0 ≡ 0 → k < count
+there k count q = ltb-true k count (need-zero (ltb k count) 11 0 q .0)
 
-  pub framed-accepted : Accepted b
-  framed-accepted = framed .accepted
+module _ (b : List ℕ) (n : ℕ) (z : n ≡ 0) where
+  pub checked : n ≡ check b → Accepted b
+  checked e = accepted b (sym e ∙ z)
+
+  pub font-listed : (k : ℕ) → n ≡ fontCode b k → FontListed b k
+  font-listed k e = let p = passed n (check b) _ _ (fontCode-is b k) e z in record { accepted = accepted b (p .0); listed = there k (fontCount b) (p .1) }
+
+  pub item-listed : (k : ℕ) → n ≡ itemCode b k → ItemListed b k
+  item-listed k e = let p = passed n (check b) _ _ (itemCode-is b k) e z in record { accepted = accepted b (p .0); listed = there k (itemCount b) (p .1) }
+
+  pub on-sheet-allowed : (e : Edit) → n ≡ onSheetCode b e → EditAllowed b e
+  on-sheet-allowed e q = let p = passed n (check b) _ _ (onSheetCode-is b e) q z in record { accepted = accepted b (p .0); allowed = p .1 }
+
+framed-of : (b frame : List ℕ) → drawCode b frame ≡ 0 → Framed b frame
+framed-of b frame q =
+    let p = passed (drawCode b frame) (check b) (fits b frame 0) _ (drawCode-is b frame) refl q in
+    record { accepted = accepted b (p .0); sized = eqb-true _ _ (need-zero (eqb (length frame) (pixelCount b)) 10 0 (p .1) .0) }
+
+module _ (b frame : List ℕ) (n : ℕ) (z : n ≡ 0) where
+  pub draw-framed : n ≡ drawCode b frame → Framed b frame
+  draw-framed e = framed-of b frame (sym e ∙ z)
+
+  pub draw-accepted : n ≡ drawCode b frame → Accepted b
+  draw-accepted e = draw-framed e .accepted
+
+  pub draw-item-framed : (k : ℕ) → n ≡ drawItemCode b frame k → Framed b frame
+  draw-item-framed k e = framed-of b frame (passed n (drawCode b frame) _ _ (drawItemCode-is b frame k) e z .0)
+
+  pub draw-item-listed : (k : ℕ) → n ≡ drawItemCode b frame k → ItemListed b k
+  draw-item-listed k e = record { accepted = draw-item-framed k e .accepted; listed = there k (itemCount b) (passed n (drawCode b frame) _ _ (drawItemCode-is b frame k) e z .1) }
+
+  module _ (k width : ℕ) (e : n ≡ whitespaceCode b frame k width) where
+    whitespace-passed : (drawItemCode b frame k ≡ 0) × (need (leb width 65_535) 18 0 ≡ 0)
+    whitespace-passed = passed n (drawItemCode b frame k) _ _ (whitespaceCode-is b frame k width) e z
+
+    pub whitespace-narrow : width ≤ 65_535
+    whitespace-narrow = leb-true _ _ (need-zero (leb width 65_535) 17 0 (whitespace-passed .1) .0)
+
+  module _ (edit : Edit) (e : n ≡ editCode b frame edit) where
+    edit-passed : (drawCode b frame ≡ 0) × (refusal b edit ≡ 0)
+    edit-passed = passed n (drawCode b frame) _ _ (editCode-is b frame edit) e z
+
+    pub edit-framed : Framed b frame
+    edit-framed = framed-of b frame (edit-passed .0)
+
+    pub edit-allowed : EditAllowed b edit
+    edit-allowed = record { accepted = edit-framed .accepted; allowed = edit-passed .1 }
+
+  module _ (output : List ℕ) (e : n ≡ pageCode b frame output) where
+    page-passed : (drawCode b frame ≡ 0) × (need (leb (length (netpbm b frame)) (length output)) 17 0 ≡ 0)
+    page-passed = passed n (drawCode b frame) _ _ (pageCode-is b frame output) e z
+
+    pub page-framed : Framed b frame
+    page-framed = framed-of b frame (page-passed .0)
+
+    pub page-accepted : Accepted b
+    page-accepted = page-framed .accepted
+
+    pub page-in : length (netpbm b frame) ≤ length output
+    page-in = leb-true _ _ (need-zero (leb (length (netpbm b frame)) (length output)) 16 0 (page-passed .1) .0)
+
+module _ (b frame : List ℕ) (n k width : ℕ) (z : n ≡ 0) (e : n ≡ whitespaceCode b frame k width) where
+  pub whitespace-framed : Framed b frame
+  whitespace-framed = draw-item-framed b frame (drawItemCode b frame k) (whitespace-passed b frame n z k width e .0) k refl
+
+  pub whitespace-listed : ItemListed b k
+  whitespace-listed = draw-item-listed b frame (drawItemCode b frame k) (whitespace-passed b frame n z k width e .0) k refl
 
 -- ---- 11
 

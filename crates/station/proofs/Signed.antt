@@ -1,11 +1,11 @@
 -- A coordinate as a signed number of 32 bits, and the replies made of two of them. Assumes nothing.
 use Prim.Native.Nat.{ℕ, suc, _-_, _^_, _<_}
 use native.Mathlib.Omega.{arith}
-use mathlib.Core.Path.{_≡_, refl, ap, _∙_}
+use mathlib.Core.Path.{_≡_, _∙_}
 use mathlib.Core.Bool.{Bool, true, false, cond}
 use mathlib.Core.List.{List}
 use lib.Dec.{ltb}
-use lib.IntN.{ℤ, pos, negsuc, subℕ, _-ℤ_}
+use lib.IntN.{ℤ, pos, negsuc, _-ℤ_}
 use mir.Syntax.{w32}
 use mir.Val.{SFits, toZ}
 use mir.Facts.{toZ-ofZ}

@@ -1,6 +1,6 @@
 -- The first refusal of two: the second is asked where the first is 0.
 use borrow.Author.Needs.{needs}
-use Rattle.station.proofs.Refusals.{pageCode-is, refused-first, header-in, framed-accepted, page-fits, page-unfit}
+use Rattle.station.proofs.Refusals.{pageCode-is, refused-first, header-in, draw-accepted, page-fits, page-unfit}
 use Rattle.station.proofs.codes.page_code.Statement.{statement}
 use Rattle.station.proofs.codes.page_code.Tie as tie
 
@@ -10,9 +10,9 @@ page-code-spec =
     (tie.spec
     (λ c κs. search needs)
     (λ c. rw pageCode-is (search refused-first))
-    (λ c κs. search (header-in, framed-accepted))
+    (λ c κs. search (header-in, draw-accepted))
     (λ c. search needs)
-    (λ c κs. search (header-in, framed-accepted))
+    (λ c κs. search (header-in, draw-accepted))
     (λ c. search needs)
     (λ c κs. search needs)
     (λ c. search page-fits)

@@ -1,6 +1,6 @@
 -- The first refusal of two: the second is asked where the first is 0.
 use borrow.Author.Needs.{needs}
-use Rattle.station.proofs.Refusals.{editCode-is, refused-first, refused-then, framed-accepted}
+use Rattle.station.proofs.Refusals.{editCode-is, refused-first, refused-then, draw-accepted}
 use Rattle.station.proofs.Signed.{place-read}
 use Rattle.station.proofs.codes.place_code.Statement.{statement}
 use Rattle.station.proofs.codes.place_code.Tie as tie
@@ -11,5 +11,5 @@ place-code-spec =
     (tie.spec
     (λ c κs. search needs)
     (λ c. rw editCode-is (search refused-first))
-    (λ c κs. search framed-accepted)
+    (λ c κs. search draw-accepted)
     (λ c. rw editCode-is (search (refused-then, place-read))))
