@@ -2,3 +2,4 @@ pub mod Exact
 pub mod Damage
 pub mod Repainting
 pub mod Painting
+pub mod Readings

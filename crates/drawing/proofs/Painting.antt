@@ -22,6 +22,7 @@ use Rattle.sheet.specs.Fields.{frameWidth, frameHeight, paper, itemCount}
 use Rattle.sheet.specs.Accepted.{Accepted}
 use Rattle.sheet.specs.Records.{item, itemFont}
 use Rattle.drawing.specs.Drawing.{numbersFrom, order, itemLayer, itemsLayer, pageLayer, freshDrawing, pixelCount, orNone, itemInk, damage, repainted}
+use Rattle.drawing.specs.Frames.{Framed}
 
 -- ---- the whole frame as a clip
 
@@ -39,6 +40,17 @@ module _ (b : List ℕ) (g : Accepted b) (frame : List ℕ) (n : length frame �
       let r : k / frameWidth b < frameHeight b = div-lt-iff-lt-mul w .1 (rw (mul-comm (frameHeight b) (frameWidth b)) l) in
       within-in (frameOf (frameWidth b) (frameHeight b)) f (origin + k % frameWidth b) (origin + k / frameWidth b) (getD frame k 0) (omega arith))
 
+module _ (b frame : List ℕ) where
+  pub framed-canvas : (clip : Rectangle) → Framed b frame → clip ≡ frameOf (frameWidth b) (frameHeight b) → Canvas (frameWidth b) (frameHeight b) (length frame) clip
+  framed-canvas clip g e = rw e (whole-canvas b (g .accepted) frame (g .sized))
+
+  pub painted-whole : (ys : List ℕ) (clip : Rectangle) (f : Layer) → Framed b frame → clip ≡ frameOf (frameWidth b) (frameHeight b) → ys ≡ paintIn (frameWidth b) clip f frame → ys ≡ paint (frameWidth b) f frame
+  painted-whole ys clip f g c e = (rw c at e) ∙ paint-whole b (g .accepted) frame (g .sized) f
+
+  pub fresh-painted : (ys : List ℕ) (clip : Rectangle) → Framed b frame → clip ≡ frameOf (frameWidth b) (frameHeight b) → ys ≡ repainted b clip frame → ys ≡ freshDrawing b frame
+  unfolding repainted freshDrawing
+  fresh-painted ys clip g c e = painted-whole ys clip (pageLayer b) g c e
+
 -- ---- items, one after another
 
 module _ (b : List ℕ) (area : Rectangle) where
@@ -50,15 +62,18 @@ module _ (b : List ℕ) (area : Rectangle) where
   unfolding rest order
   rest-all frame = ap (λ (k : ℕ). paintIn (frameWidth b) area (itemsLayer b (numbersFrom 0 k)) frame) (omega arith)
 
-  pub rest-none : (n : ℕ) (frame : List ℕ) → itemCount b ≤ n → frame ≡ rest n frame
+  rest-none : (n : ℕ) (frame : List ℕ) → itemCount b ≤ n → frame ≡ rest n frame
   unfolding rest itemsLayer numbersFrom
   rest-none n frame h =
       let z : itemCount b - n ≡ 0 = omega arith in
       rw z (sym (paint-none (frameWidth b) _ frame (within-none area (itemsLayer b []) (λ c r grey. refl))))
 
-  pub rest-more : (n : ℕ) (frame next whole : List ℕ) → n < itemCount b → next ≡ paintIn (frameWidth b) area (itemLayer b n) frame → rest n frame ≡ whole → rest (n + 1) next ≡ whole
+  pub rest-ended : (n items : ℕ) (frame whole : List ℕ) → items ≡ itemCount b → items ≤ n → rest n frame ≡ whole → frame ≡ whole
+  rest-ended n items frame whole e h p = rest-none n frame (omega arith) ∙ p
+
+  pub rest-more : (n items : ℕ) (frame next whole : List ℕ) → items ≡ itemCount b → n < items → next ≡ paintIn (frameWidth b) area (itemLayer b n) frame → rest n frame ≡ whole → rest (n + 1) next ≡ whole
   unfolding rest itemsLayer numbersFrom
-  rest-more n frame next whole h p e =
+  rest-more n items frame next whole c h p e =
       let left = itemCount b - (n + 1) in
       let s : itemCount b - n ≡ suc left = omega arith in
       paint-then (frameWidth b) area (itemLayer b n) (itemsLayer b (numbersFrom (n + 1) left)) frame next _ p refl
@@ -67,17 +82,21 @@ module _ (b : List ℕ) (area : Rectangle) where
       ∙ e
 
   -- an item whose ink box shares no pixel with the area changes nothing there
-  pub item-missed : (n : ℕ) (frame : List ℕ) (t : Bool) → t ≡ isEmpty (intersection (itemInk b n) area) → t ≡ true → frame ≡ paintIn (frameWidth b) area (itemLayer b n) frame
+  pub item-missed : (n : ℕ) (frame : List ℕ) (ink met : Rectangle) (t : Bool) → ink ≡ itemInk b n → met ≡ intersection ink area → t ≡ isEmpty met → t ≡ true → frame ≡ paintIn (frameWidth b) area (itemLayer b n) frame
   unfolding itemLayer itemInk
-  item-missed n frame t e q = paint-disjoint (frameWidth b) area (itemInk b n) (itemLayer b n) frame
+  item-missed n frame ink met t ei em et q = paint-disjoint (frameWidth b) area (itemInk b n) (itemLayer b n) frame
       (λ c r grey o. layer-out (itemFont b n) (item b n) c r grey o)
-      (λ c r i j. let k = in-not-empty (intersection (itemInk b n) area) c r (intersection-in c r (itemInk b n) area j i) in let z : _≡_ {A = ℕ} 0 1 = cc in omega arith)
+      (λ c r i j.
+      let k = in-not-empty (intersection (itemInk b n) area) c r (intersection-in c r (itemInk b n) area j i) in
+      let e : isEmpty met ≡ isEmpty (intersection (itemInk b n) area) = rw (em, ei) in
+      let z : _≡_ {A = ℕ} 0 1 = cc in omega arith)
 
   -- paper, then the items: the page in the area
-  pub page-painted : (xs ys zs : List ℕ) → ys ≡ paintIn (frameWidth b) area (filled area (Set (paper b))) xs → zs ≡ paintIn (frameWidth b) area (itemsLayer b (order b)) ys → zs ≡ repainted b area xs
+  pub page-painted : (fw grey : ℕ) (xs ys zs : List ℕ) → fw ≡ frameWidth b → grey ≡ paper b
+      → ys ≡ paintIn fw area (filled area (Set grey)) xs → zs ≡ paintIn (frameWidth b) area (itemsLayer b (order b)) ys → zs ≡ repainted b area xs
   unfolding repainted pageLayer filled
-  page-painted xs ys zs p q =
-      paint-then (frameWidth b) area _ (itemsLayer b (order b)) xs ys zs p q
+  page-painted fw grey xs ys zs w g p q =
+      paint-then (frameWidth b) area _ (itemsLayer b (order b)) xs ys zs (rw (w, g) at p) q
       ∙ paint-same (frameWidth b) _ (within area (pageLayer b)) xs (λ c r grey. ⊎-elim
       (λ i. within-in area (over (itemsLayer b (order b)) (filled area (Set (paper b)))) c r grey i ∙ ap (itemsLayer b (order b) c r) (within-in area (λ c r grey. paper b) c r grey i) ∙ sym (within-in area (pageLayer b) c r grey i))
       (λ o. within-out area (over (itemsLayer b (order b)) (filled area (Set (paper b)))) c r grey o ∙ sym (within-out area (pageLayer b) c r grey o))
