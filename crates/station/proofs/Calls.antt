@@ -19,6 +19,7 @@ use Rattle.mapping.specs.Mapping.{index, contains}
 use Rattle.line.specs.declared.MonoFont.{MonoFont}
 use Rattle.sheet.specs.Fields.{frameWidth, frameHeight, fontAt, mappingBytes}
 use Rattle.sheet.specs.Records.{monoFont, font}
+use Rattle.drawing.proofs.Readings.{mapping-limit}
 use Rattle.station.specs.declared.Number.{Number}
 use Rattle.station.specs.declared.Position.{Position}
 use Rattle.station.specs.declared.Box.{Box}
@@ -58,11 +59,17 @@ module _ (n code : ℕ) (e : n ≡ code) where
   unfolding numberReply
   number-done value v z q = rw (← e, z, q)
 
+  pub position-done : (r : Position) (p q : Point) → n ≡ 0 → r ≡ positionReply 0 p → p ≡ q → r ≡ positionReply code q
+  position-done r p q z h d = rw (← e, z, ← d) h
+
+  pub box-done : (r : Box) (a d : Rectangle) → n ≡ 0 → r ≡ boxReply 0 a → a ≡ d → r ≡ boxReply code d
+  box-done r a d z q f = rw (← e, z, ← f) q
+
 -- ---- station_index, station_contains
 
 module _ (b : List ℕ) (k n : ℕ) (e : n ≡ fontCode b k) (z : n ≡ 0) (m : List ℕ) (em : m ≡ mappingBytes b (fontAt k)) where
   pub mapping-within : WithinLimit m
-  mapping-within = let g = font-listed b n z k e in rw em (record { spelled = g .accepted .font-fits k (g .listed) .mapping-short })
+  mapping-within = mapping-limit b k k m (font-listed b n z k e) em
 
   pub index-done : (mono : MonoFont) (ch r : ℕ) → mono ≡ monoFont b (fontAt k) → r ≡ index m (mono .«replacement_index») ch → _≡_ {A = Number} (record { code = 0; value = r }) (indexReply b k ch)
   unfolding indexReply font

@@ -4,3 +4,4 @@ pub mod Pages
 pub mod Refusals
 pub mod Signed
 pub mod Calls
+pub mod Bounds

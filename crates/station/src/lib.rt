@@ -2,17 +2,25 @@
 // code and zeros, and leaves sheet, frame and output as they were.
 use characters::Step as Walked;
 use characters::walker::walk_from;
+use codes::draw_item_code;
 use codes::font_code;
+use codes::frame_code;
+use codes::item_code;
 use codes::page_code;
+use codes::whitespace_code;
 use page::write_page;
 use records::font_at;
 use records::mapping_bytes;
+use replies::box_reply;
+use replies::position_reply;
+use replies::refused_box;
 use replies::refused_number;
+use replies::refused_position;
 use sheet::fields::frame_height;
 use sheet::fields::frame_width;
 ghost use mathlib.Core.Path.{_≡_};
 ghost use Rattle.sheet.specs.Check.{check};
-ghost use Rattle.station.specs.Calls.{indexReply, containsReply, walkReply, pageReply, pageOutput};
+ghost use Rattle.station.specs.Calls.{indexReply, containsReply, boundingBoxReply, drawItemReply, drawItemFrame, whitespaceReply, whitespaceFrame, drawCode, drawFrame, pageReply, pageOutput, walkReply};
 
 mod codes;
 pub mod page;
@@ -92,6 +100,66 @@ pub extern "C" fn station_contains(sheet: &[u8], font: u32, character: u32) -> N
         return Number { code: 0, value: 1 };
     }
     Number { code: 0, value: 0 }
+}
+
+// The measured box of an item.
+#[no_mangle]
+pub extern "C" fn station_bounding_box(sheet: &[u8], item: u32) -> Box
+    ensures { λ r. ⌜ r ≡ boundingBoxReply (now (sheet .entry)) item ⌝ }
+{
+    let code = item_code(sheet, item);
+    if code != 0 {
+        return refused_box(code);
+    }
+    let area = drawing::bounding_box(sheet, item);
+    box_reply(area)
+}
+
+// Draws an item on the frame; gives the next position.
+#[no_mangle]
+pub extern "C" fn station_draw_item(sheet: &[u8], frame: &mut [u8], item: u32) -> Position
+    ensures { λ r. ⌜ r ≡ drawItemReply (now (sheet .entry)) (now (frame .entry)) item ⌝ }
+    ensures { λ _. ⌜ now (frame .exit) ≡ drawItemFrame (now (sheet .entry)) (now (frame .entry)) item ⌝ }
+{
+    let code = draw_item_code(sheet, &frame[..], item);
+    if code != 0 {
+        return refused_position(code);
+    }
+    let next = drawing::draw_item(sheet, frame, item);
+    position_reply(next)
+}
+
+// Draws whitespace of a width at an item's place on the frame; gives the next position.
+#[no_mangle]
+pub extern "C" fn station_draw_whitespace(
+    sheet: &[u8],
+    frame: &mut [u8],
+    item: u32,
+    width: u32,
+) -> Position
+    ensures { λ r. ⌜ r ≡ whitespaceReply (now (sheet .entry)) (now (frame .entry)) item width ⌝ }
+    ensures { λ _. ⌜ now (frame .exit) ≡ whitespaceFrame (now (sheet .entry)) (now (frame .entry)) item width ⌝ }
+{
+    let code = whitespace_code(sheet, &frame[..], item, width);
+    if code != 0 {
+        return refused_position(code);
+    }
+    let next = drawing::draw_whitespace(sheet, frame, item, width);
+    position_reply(next)
+}
+
+// Draws the page on the frame.
+#[no_mangle]
+pub extern "C" fn station_draw(sheet: &[u8], frame: &mut [u8]) -> u32
+    ensures { λ r. ⌜ r ≡ drawCode (now (sheet .entry)) (now (frame .entry)) ⌝ }
+    ensures { λ _. ⌜ now (frame .exit) ≡ drawFrame (now (sheet .entry)) (now (frame .entry)) ⌝ }
+{
+    let code = frame_code(sheet, &frame[..]);
+    if code != 0 {
+        return code;
+    }
+    drawing::draw(sheet, frame);
+    0
 }
 
 // The frame as a Netpbm file, stored at the head of the output, and its length.
