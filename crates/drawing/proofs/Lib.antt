@@ -5,4 +5,3 @@ pub mod Painting
 pub mod Readings
 pub mod EditedInk
 pub mod Changes
-pub mod Bounds

@@ -21,7 +21,6 @@ use Rattle.sheet.specs.Requires.{FontListed, ItemListed}
 use Rattle.sheet.specs.Records.{monoFont, font, monoTextStyle, textStyle, lineHeight, itemOf, item, itemFont}
 use Rattle.drawing.specs.declared.items.Item.{Item}
 use Rattle.drawing.specs.Drawing.{itemLayer, itemInk, whitespaceLayer, whitespaceNext}
-use Rattle.drawing.specs.Frames.{Near}
 use Rattle.drawing.specs.Items.{ItemRead}
 
 -- ---- `item_at`
@@ -105,6 +104,3 @@ module _ (b : List ℕ) (n width : ℕ) (i : Item) (r : ItemRead b n i) where
   pub whitespace-next : (x : ℕ) → x ≡ i .position .x + width → _≡_ {A = Point} (record { x = x; y = i .position .y }) (whitespaceNext (item b n) width)
   unfolding whitespaceNext
   whitespace-next x e = rw (e, r .position)
-
-  pub whitespace-near : (x : ℕ) → x ≡ i .position .x + width → width ≤ 65_535 → Near (record { x = x; y = i .position .y })
-  whitespace-near x e h = record { near-x = omega (arith, r .text-limits .near-x); near-y = omega (arith, r .text-limits .near-y) }

@@ -18,7 +18,7 @@ ghost use Rattle.sheet.specs.Accepted.{Accepted};
 ghost use Rattle.sheet.specs.Requires.{ItemListed};
 ghost use Rattle.sheet.specs.Records.{item, itemFont};
 ghost use Rattle.drawing.specs.Drawing.{order, itemLayer, itemsLayer, freshDrawing, whitespaceLayer, whitespaceNext, itemInk, repainted};
-ghost use Rattle.drawing.specs.Frames.{Framed, Near, NearBox};
+ghost use Rattle.drawing.specs.Frames.{Framed};
 
 pub mod damage;
 mod items;
@@ -42,7 +42,6 @@ fn draw_item_in(sheet: &[u8], frame: &mut [u8], clip: Rectangle, n: u32) -> Poin
     requires { ⌜ Canvas (frameWidth (now sheet)) (frameHeight (now sheet)) (length (now frame)) clip ⌝ }
     ensures { λ _. ⌜ now (frame .exit) ≡ paintIn (frameWidth (now (sheet .entry))) clip (itemLayer (now (sheet .entry)) n) (now (frame .entry)) ⌝ }
     ensures { λ r. ⌜ r ≡ next (itemFont (now (sheet .entry)) n .mono) (item (now (sheet .entry)) n) ⌝ }
-    ensures { λ r. ⌜ Near r ⌝ }
 {
     let fw = frame_width(sheet) as usize;
     let fh = frame_height(sheet) as usize;
@@ -140,7 +139,6 @@ pub fn draw_item(sheet: &[u8], frame: &mut [u8], n: u32) -> Point
     requires { ⌜ Framed (now sheet) (now frame) ⌝ }
     ensures { λ _. ⌜ now (frame .exit) ≡ paint (frameWidth (now (sheet .entry))) (itemLayer (now (sheet .entry)) n) (now (frame .entry)) ⌝ }
     ensures { λ r. ⌜ r ≡ next (itemFont (now (sheet .entry)) n .mono) (item (now (sheet .entry)) n) ⌝ }
-    ensures { λ r. ⌜ Near r ⌝ }
 {
     let clip = frame_of(sheet);
     draw_item_in(sheet, frame, clip, n)
@@ -153,7 +151,6 @@ fn draw_whitespace_in(sheet: &[u8], frame: &mut [u8], clip: Rectangle, n: u32, w
     requires { ⌜ width ≤ 65_535 ⌝ }
     ensures { λ _. ⌜ now (frame .exit) ≡ paintIn (frameWidth (now (sheet .entry))) clip (whitespaceLayer (itemFont (now (sheet .entry)) n .mono) (item (now (sheet .entry)) n) width) (now (frame .entry)) ⌝ }
     ensures { λ r. ⌜ r ≡ whitespaceNext (item (now (sheet .entry)) n) width ⌝ }
-    ensures { λ r. ⌜ Near r ⌝ }
 {
     let fw = frame_width(sheet) as usize;
     let fh = frame_height(sheet) as usize;
@@ -175,7 +172,6 @@ pub fn draw_whitespace(sheet: &[u8], frame: &mut [u8], n: u32, width: u32) -> Po
     requires { ⌜ width ≤ 65_535 ⌝ }
     ensures { λ _. ⌜ now (frame .exit) ≡ paint (frameWidth (now (sheet .entry))) (whitespaceLayer (itemFont (now (sheet .entry)) n .mono) (item (now (sheet .entry)) n) width) (now (frame .entry)) ⌝ }
     ensures { λ r. ⌜ r ≡ whitespaceNext (item (now (sheet .entry)) n) width ⌝ }
-    ensures { λ r. ⌜ Near r ⌝ }
 {
     let clip = frame_of(sheet);
     draw_whitespace_in(sheet, frame, clip, n, width)
@@ -185,7 +181,6 @@ pub fn draw_whitespace(sheet: &[u8], frame: &mut [u8], n: u32, width: u32) -> Po
 pub fn bounding_box(sheet: &[u8], n: u32) -> Rectangle
     requires { ⌜ ItemListed (now sheet) n ⌝ }
     ensures { λ r. ⌜ r ≡ boundingBox (itemFont (now (sheet .entry)) n .mono) (item (now (sheet .entry)) n) ⌝ }
-    ensures { λ r. ⌜ NearBox r ⌝ }
 {
     let item = item_at(sheet, n);
     let words = records::text_bytes(sheet, n);

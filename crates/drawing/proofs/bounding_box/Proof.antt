@@ -1,7 +1,6 @@
 -- What is read is the item, so that the text's measured box is the item's.
 use borrow.Author.Needs.{needs}
 use Rattle.drawing.proofs.Readings.{item-limits, item-box}
-use Rattle.drawing.proofs.Bounds.{text-box-near}
 use Rattle.drawing.proofs.bounding_box.Statement.{statement}
 use Rattle.drawing.proofs.bounding_box.Tie as tie
 
@@ -15,7 +14,7 @@ bounding-box-requires : tie.Need-bounding-box-requires
 bounding-box-requires c κs = (search needs, search item-limits)
 
 returns : tie.Need-returns
-returns c = (search item-box, search (text-box-near, item-limits))
+returns c = search item-box
 
 pub bounding-box-spec : {M : Type 1} → statement M
 bounding-box-spec =

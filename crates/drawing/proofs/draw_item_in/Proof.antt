@@ -2,7 +2,6 @@
 use borrow.Author.Needs.{needs}
 use Rattle.records.proofs.Readings.{font-listed}
 use Rattle.drawing.proofs.Readings.{mapping-limit, item-limits, item-painted, item-next, canvas-read}
-use Rattle.drawing.proofs.Bounds.{text-next-near}
 use Rattle.drawing.proofs.draw_item_in.Statement.{statement}
 use Rattle.drawing.proofs.draw_item_in.Tie as tie
 
@@ -37,7 +36,7 @@ same-length : tie.Need-same-length
 same-length c = search needs
 
 returns : tie.Need-returns
-returns c = (search item-painted, (search item-next, search (text-next-near, item-limits)))
+returns c = (search item-painted, search item-next)
 
 pub draw-item-in-spec : {M : Type 1} → statement M
 draw-item-in-spec =

@@ -1,6 +1,6 @@
 -- What is read is the item's place, style and font, and the top edge is the baseline offset above its y.
 use borrow.Author.Needs.{needs}
-use Rattle.drawing.proofs.Readings.{canvas-read, whitespace-painted, whitespace-next, whitespace-near}
+use Rattle.drawing.proofs.Readings.{canvas-read, whitespace-painted, whitespace-next}
 use Rattle.drawing.proofs.draw_whitespace_in.Statement.{statement}
 use Rattle.drawing.proofs.draw_whitespace_in.Tie as tie
 
@@ -32,7 +32,7 @@ same-length : tie.Need-same-length
 same-length c = search needs
 
 returns : tie.Need-returns
-returns c = (search whitespace-painted, (search whitespace-next, search whitespace-near))
+returns c = (search whitespace-painted, search whitespace-next)
 
 pub draw-whitespace-in-spec : {M : Type 1} → statement M
 draw-whitespace-in-spec =
