@@ -5,3 +5,4 @@ pub mod Refusals
 pub mod Signed
 pub mod Calls
 pub mod Bounds
+pub mod EditCalls

@@ -7,7 +7,20 @@ use codes::font_code;
 use codes::frame_code;
 use codes::item_code;
 use codes::page_code;
+use codes::place_code;
+use codes::place_on_sheet_code;
+use codes::style_code;
+use codes::style_on_sheet_code;
+use codes::text_code;
+use codes::text_on_sheet_code;
 use codes::whitespace_code;
+use drawing::damage::place_damage;
+use drawing::damage::style_damage;
+use drawing::damage::text_damage;
+use drawing::repaint;
+use edits::put_place;
+use edits::put_style;
+use edits::put_text;
 use page::write_page;
 use records::font_at;
 use records::mapping_bytes;
@@ -20,7 +33,8 @@ use sheet::fields::frame_height;
 use sheet::fields::frame_width;
 ghost use mathlib.Core.Path.{_≡_};
 ghost use Rattle.sheet.specs.Check.{check};
-ghost use Rattle.station.specs.Calls.{indexReply, containsReply, boundingBoxReply, drawItemReply, drawItemFrame, whitespaceReply, whitespaceFrame, drawCode, drawFrame, pageReply, pageOutput, walkReply};
+ghost use Rattle.sheet.specs.Edits.{newText, newPlace, newStyle};
+ghost use Rattle.station.specs.Calls.{indexReply, containsReply, boundingBoxReply, drawItemReply, drawItemFrame, whitespaceReply, whitespaceFrame, drawCode, drawFrame, editReply, editSheet, editFrame, onSheetReply, onSheetSheet, pageReply, pageOutput, walkReply};
 
 mod codes;
 pub mod page;
@@ -160,6 +174,118 @@ pub extern "C" fn station_draw(sheet: &[u8], frame: &mut [u8]) -> u32
     }
     drawing::draw(sheet, frame);
     0
+}
+
+// Gives an item a new text, and repaints its damage rectangle, which it gives.
+#[no_mangle]
+pub extern "C" fn station_set_text(
+    sheet: &mut [u8],
+    frame: &mut [u8],
+    item: u32,
+    text: &[u8],
+) -> Box
+    ensures { λ r. ⌜ r ≡ editReply (now (sheet .entry)) (now (frame .entry)) (newText item (now (text .entry))) ⌝ }
+    ensures { λ _. ⌜ now (sheet .exit) ≡ editSheet (now (sheet .entry)) (now (frame .entry)) (newText item (now (text .entry))) ⌝ }
+    ensures { λ _. ⌜ now (frame .exit) ≡ editFrame (now (sheet .entry)) (now (frame .entry)) (newText item (now (text .entry))) ⌝ }
+{
+    let code = text_code(&sheet[..], &frame[..], item, text);
+    if code != 0 {
+        return refused_box(code);
+    }
+    let area = text_damage(&sheet[..], item, text);
+    put_text(sheet, item, text);
+    repaint(&sheet[..], frame, area);
+    box_reply(area)
+}
+
+// Gives an item a new place, and repaints its damage rectangle, which it gives.
+#[no_mangle]
+pub extern "C" fn station_set_place(
+    sheet: &mut [u8],
+    frame: &mut [u8],
+    item: u32,
+    x: i32,
+    y: i32,
+) -> Box
+    ensures { λ r. ⌜ r ≡ editReply (now (sheet .entry)) (now (frame .entry)) (newPlace item x y) ⌝ }
+    ensures { λ _. ⌜ now (sheet .exit) ≡ editSheet (now (sheet .entry)) (now (frame .entry)) (newPlace item x y) ⌝ }
+    ensures { λ _. ⌜ now (frame .exit) ≡ editFrame (now (sheet .entry)) (now (frame .entry)) (newPlace item x y) ⌝ }
+{
+    let code = place_code(&sheet[..], &frame[..], item, x, y);
+    if code != 0 {
+        return refused_box(code);
+    }
+    let area = place_damage(&sheet[..], item, x, y);
+    put_place(sheet, item, x, y);
+    repaint(&sheet[..], frame, area);
+    box_reply(area)
+}
+
+// Gives an item a new style, and repaints its damage rectangle, which it gives.
+#[no_mangle]
+pub extern "C" fn station_set_style(
+    sheet: &mut [u8],
+    frame: &mut [u8],
+    item: u32,
+    style: &[u8],
+) -> Box
+    ensures { λ r. ⌜ r ≡ editReply (now (sheet .entry)) (now (frame .entry)) (newStyle item (now (style .entry))) ⌝ }
+    ensures { λ _. ⌜ now (sheet .exit) ≡ editSheet (now (sheet .entry)) (now (frame .entry)) (newStyle item (now (style .entry))) ⌝ }
+    ensures { λ _. ⌜ now (frame .exit) ≡ editFrame (now (sheet .entry)) (now (frame .entry)) (newStyle item (now (style .entry))) ⌝ }
+{
+    let code = style_code(&sheet[..], &frame[..], item, style);
+    if code != 0 {
+        return refused_box(code);
+    }
+    let area = style_damage(&sheet[..], item, style);
+    put_style(sheet, item, style);
+    repaint(&sheet[..], frame, area);
+    box_reply(area)
+}
+
+// Gives an item a new text on the sheet alone; gives the damage rectangle.
+#[no_mangle]
+pub extern "C" fn station_set_text_on_sheet(sheet: &mut [u8], item: u32, text: &[u8]) -> Box
+    ensures { λ r. ⌜ r ≡ onSheetReply (now (sheet .entry)) (newText item (now (text .entry))) ⌝ }
+    ensures { λ _. ⌜ now (sheet .exit) ≡ onSheetSheet (now (sheet .entry)) (newText item (now (text .entry))) ⌝ }
+{
+    let code = text_on_sheet_code(&sheet[..], item, text);
+    if code != 0 {
+        return refused_box(code);
+    }
+    let area = text_damage(&sheet[..], item, text);
+    put_text(sheet, item, text);
+    box_reply(area)
+}
+
+// Gives an item a new place on the sheet alone; gives the damage rectangle.
+#[no_mangle]
+pub extern "C" fn station_set_place_on_sheet(sheet: &mut [u8], item: u32, x: i32, y: i32) -> Box
+    ensures { λ r. ⌜ r ≡ onSheetReply (now (sheet .entry)) (newPlace item x y) ⌝ }
+    ensures { λ _. ⌜ now (sheet .exit) ≡ onSheetSheet (now (sheet .entry)) (newPlace item x y) ⌝ }
+{
+    let code = place_on_sheet_code(&sheet[..], item, x, y);
+    if code != 0 {
+        return refused_box(code);
+    }
+    let area = place_damage(&sheet[..], item, x, y);
+    put_place(sheet, item, x, y);
+    box_reply(area)
+}
+
+// Gives an item a new style on the sheet alone; gives the damage rectangle.
+#[no_mangle]
+pub extern "C" fn station_set_style_on_sheet(sheet: &mut [u8], item: u32, style: &[u8]) -> Box
+    ensures { λ r. ⌜ r ≡ onSheetReply (now (sheet .entry)) (newStyle item (now (style .entry))) ⌝ }
+    ensures { λ _. ⌜ now (sheet .exit) ≡ onSheetSheet (now (sheet .entry)) (newStyle item (now (style .entry))) ⌝ }
+{
+    let code = style_on_sheet_code(&sheet[..], item, style);
+    if code != 0 {
+        return refused_box(code);
+    }
+    let area = style_damage(&sheet[..], item, style);
+    put_style(sheet, item, style);
+    box_reply(area)
 }
 
 // The frame as a Netpbm file, stored at the head of the output, and its length.
