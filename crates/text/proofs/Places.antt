@@ -14,7 +14,7 @@ use Rattle.line.specs.declared.MonoFont.{MonoFont}
 use Rattle.geometry.specs.declared.Point.{Point}
 use Rattle.characters.specs.Utf8.{chars}
 use Rattle.line.specs.Line.{characterHeight, measuredWidth}
-use Rattle.line.specs.Limits.{FontLimits, LengthLimit, PlaceLimits}
+use Rattle.line.specs.Limits.{FontLimits, PlaceLimits}
 use Rattle.text.specs.declared.Alignment.{Alignment}
 use Rattle.text.specs.declared.Alignment.the-variants.{Left, Center, Right}
 use Rattle.text.specs.declared.LineHeight.{LineHeight}
@@ -80,17 +80,13 @@ module _ (m : MonoFont) (limits : FontLimits m) where
 
 -- ---- what the functions of one line require
 
-module _ (n x y : ℕ) (row : List ℕ) (limits : LineLimits (length row) x y) (shown : List ℕ) (e : shown ≡ withoutReturn row) where
-  pub shown-short : LengthLimit (length shown)
-  shown-short = record { text-short = omega (arith, ap length e, length-without-return row) }
-
-  pub shown-place : (m : MonoFont) (t : TextStyle) (corner : Point) → corner ≡ lineCorner m t row x y → PlaceLimits (length shown) (corner .x) (corner .y)
-  unfolding lineCorner
-  shown-place m t corner d = record {
-    text-short = shown-short .text-short;
-    near-x = rw d (omega (arith, start-near (t .alignment) x (measuredWidth m (length (chars row)))));
-    near-top = rw d (omega arith);
-  }
+pub shown-place : (m : MonoFont) (t : TextStyle) (n k x y : ℕ) (row : List ℕ) (corner : Point) → LineLimits n x y → k ≤ n → corner ≡ lineCorner m t row x y → PlaceLimits k (corner .x) (corner .y)
+unfolding lineCorner
+shown-place m t n k x y row corner limits short e = record {
+  text-short = omega arith;
+  near-x = rw e (omega (arith, start-near (t .alignment) x (measuredWidth m (length (chars row)))));
+  near-top = rw e (omega arith);
+}
 
 -- ---- a loop over the lines of a text at (x, y)
 
