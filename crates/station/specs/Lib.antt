@@ -1,3 +1,4 @@
 pub mod Page
+pub mod Room
 pub mod Calls
 pub mod Machine

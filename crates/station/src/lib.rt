@@ -1,5 +1,7 @@
 // The replies of the exported calls: a refused call has its number for a code and zeros.
 
+pub mod page;
+
 // A code and a value: an index, yes or no as 1 or 0, or a length.
 #[repr(C)]
 pub struct Number {

@@ -85,6 +85,9 @@ module _ (ink : Bool) (m : MonoFont) (text : List ℕ) (x y : ℕ) (s : MonoText
     unfolding placeLines joins
     boxes-last size z h = one-joined ∙ sym (rw (lines-last text from (from + length row) (j .start .reach) (end-of-line text row from e) (omega arith))) ∙ j .joined
 
+    pub boxes-end : FontLimits m → TextLimits (length text) x y (ts .«line_height») → EndsFit next
+    boxes-end font limits = rw q (ends-fit-join area shown (j .ends) (box-ends ink m s ts x at row shown font (line-limits text row x y from at (ts .«line_height») limits (j .start) e) p))
+
     pub boxes-step : (size height : ℕ) → FontLimits m → TextLimits (length text) x y (ts .«line_height») → height ≡ lineHeight m (ts .«line_height») → size ≡ length text → from + length row < size
         → BoxesJoined (from + length row + 1) (at + height) next
     unfolding placeLines joins
@@ -93,7 +96,7 @@ module _ (ink : Bool) (m : MonoFont) (text : List ℕ) (x y : ℕ) (s : MonoText
         record {
           joined = rw (h, one-joined) (sym (rw (lines-more text from (from + length row) (j .start .reach) d (omega arith))) ∙ j .joined);
           start = start-next text x y from (from + length row) at height m (ts .«line_height») font limits (j .start) h d (omega arith);
-          ends = rw q (ends-fit-join area shown (j .ends) (box-ends ink m s ts x at row shown font (line-limits text row x y from at (ts .«line_height») limits (j .start) e) p));
+          ends = boxes-end font limits;
         }
 
 -- ---- the two boxes of a text

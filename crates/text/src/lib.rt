@@ -8,6 +8,7 @@ use line::MonoTextStyle;
 ghost use mathlib.Core.Path.{_≡_};
 ghost use Prim.Native.Nat.{_+_, _≤_};
 ghost use lib.ListN.{length, drop};
+ghost use Rattle.geometry.specs.Rectangle.{EndsFit};
 ghost use Rattle.geometry.specs.Layer.{paintIn};
 ghost use Rattle.geometry.specs.Canvas.{Canvas};
 ghost use Rattle.characters.specs.Utf8.{chars};
@@ -261,6 +262,7 @@ fn lines_box<'a>(
     requires { ⌜ FontLimits font ⌝ }
     requires { ⌜ TextLimits (length (either (now stored) (now new) «from_new»)) x y («text_style» .«line_height») ⌝ }
     ensures { λ r. ⌜ r ≡ linesBox ink font (textOf (either (now (stored .entry)) (now (new .entry)) «from_new») x y style «text_style») ⌝ }
+    ensures { λ r. ⌜ EndsFit r ⌝ }
 {
     let kind = text_style.line_height;
     let height = line_height(font, kind);
@@ -332,6 +334,7 @@ pub fn ink_box_of<'a>(
     requires { ⌜ FontLimits font ⌝ }
     requires { ⌜ TextLimits (length (either (now stored) (now new) «from_new»)) x y («text_style» .«line_height») ⌝ }
     ensures { λ r. ⌜ r ≡ inkBox font (textOf (either (now (stored .entry)) (now (new .entry)) «from_new») x y style «text_style») ⌝ }
+    ensures { λ r. ⌜ EndsFit r ⌝ }
 {
     lines_box(stored, new, from_new, true, font, style, text_style, x, y)
 }

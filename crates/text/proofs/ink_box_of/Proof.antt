@@ -8,7 +8,7 @@ lines-box-requires : tie.Need-lines-box-requires
 lines-box-requires c κs = search needs
 
 returns : tie.Need-returns
-returns c = search lines-ink-box
+returns c = (search lines-ink-box, search needs)
 
 pub ink-box-of-spec : {M : Type 1} → statement M
 ink-box-of-spec = tie.close (tie.spec lines-box-requires returns)

@@ -12,7 +12,8 @@ use Rattle.characters.specs.Refusal.{need, all}
 use Rattle.sheet.specs.declared.Reach.{Reach}
 use Rattle.sheet.specs.declared.Reach.the-variants.{To, Off}
 use Rattle.sheet.specs.Fields.{edition, frameWidth, frameHeight, fontCount, itemCount, headerZero, wholeLength, fontAt, itemAt, piecesAt, atlasOffset, atlasLength, mappingOffset, mappingLength, slotOffset, slotSize}
-use Rattle.sheet.specs.Check.{headerRefusal, checkHeader, given, fontsEnd, slotsEnd, thenSlots, endsAt, layoutTests, isLaidOut}
+use Rattle.limits.specs.Limits.{headerRefusal}
+use Rattle.sheet.specs.Check.{checkHeader, given, fontsEnd, slotsEnd, thenSlots, endsAt, layoutTests, isLaidOut}
 use Rattle.sheet.specs.Accepted.{Headed, LaidOut}
 use Rattle.sheet.proofs.Refusals.{need-zero, all-true}
 
