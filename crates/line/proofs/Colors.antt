@@ -1,4 +1,4 @@
--- Colours: when the characters take a grey, and when an underline counts. Assumes nothing.
+-- Colours: when the characters take a grey, that they paint nothing without one, and when an underline counts. Assumes nothing.
 use Prim.Native.Nat.{ℕ, _+_}
 use native.Mathlib.Omega.{arith}
 use mathlib.Core.Path.{_≡_, refl, _∙_}

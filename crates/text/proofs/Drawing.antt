@@ -67,7 +67,7 @@ module _ (fw : ℕ) (clip : Rectangle) (f : Font) (text : List ℕ) (x y : ℕ) 
 
     one-painted : next-frame ≡ paintIn fw clip (lineLayer f whole here) frame
     unfolding lineLayer placeLine
-    one-painted = rw (line-part text from end (d .start .reach) e) at p
+    one-painted = rw (line-part text from end e) at p
 
     pub draw-last : length text ≤ end → next-frame ≡ paintIn fw clip (layer f whole) frame₀
     unfolding linesLayer placeLines
@@ -92,4 +92,4 @@ pub next-last : (m : MonoFont) (text : List ℕ) (x y : ℕ) (s : MonoTextStyle)
     → record { x = r; y = at } ≡ next m (textOf text x y s ts)
 unfolding lineNext placeLine placeLines lastNext
 next-last m text x y s ts from end at r start e h p q =
-    rw q (rw (line-part text from end (start .reach) e) (sym (rw (lines-last text from end (start .reach) e h)) ∙ p))
+    rw q (rw (line-part text from end e) (sym (rw (lines-last text from end (start .reach) e h)) ∙ p))

@@ -69,16 +69,13 @@ unfolding lineFrom
 lines-first t = split t
 
 -- the line from `from` to `end`
+pub line-part : (text : List ℕ) (from end : ℕ) → end ≡ from + lineLength (drop from text) → take (end - from) (drop from text) ≡ lineFrom text from
+unfolding lineFrom
+line-part text from end e = let q : end - from ≡ lineLength (drop from text) = omega arith in rw q
+
 module _ (text : List ℕ) (from end : ℕ) (reach : from ≤ length text) (e : end ≡ from + lineLength (drop from text)) where
   pub end-reach : end ≤ length text
   end-reach = omega (arith, length-to-feed (drop from text), length-drop from text)
-
-  pub start-reach : from ≤ end
-  start-reach = omega arith
-
-  pub line-part : take (end - from) (drop from text) ≡ lineFrom text from
-  unfolding lineFrom
-  line-part = ap (λ (n : ℕ). take n (drop from text)) (let q : end - from ≡ lineLength (drop from text) = omega arith in q)
 
   split-at : lines (drop from text) ≡ lineFrom text from ∷ after (drop end text)
   unfolding lineFrom
@@ -117,5 +114,4 @@ module _ (text chosen : List ℕ) (from end : ℕ) (e : chosen ≡ text) (d : en
   chosen-end h = end-reach text from end (rw e at h) d
 
   pub chosen-line : take (end - from) (drop from text) ≡ lineFrom chosen from
-  unfolding lineFrom
-  chosen-line = let q : end - from ≡ lineLength (drop from text) = omega arith in rw (e, q)
+  chosen-line = rw e (line-part text from end d)

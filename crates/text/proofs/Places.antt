@@ -1,4 +1,4 @@
--- Where the lines of a text stand, and how far from where a sum is too large. Assumes nothing.
+-- Where the lines of a text stand, and that no sum on the way is too large. Assumes nothing.
 use Prim.Native.Nat.{ℕ, _+_, _-_, _*_, _/_, _≤_, _<_}
 use native.Mathlib.Nat.{mul-le-mul}
 use native.Mathlib.Omega.{arith}
@@ -10,17 +10,17 @@ use lib.Dec.{eqb}
 use mir.Syntax.{w32}
 use mir.Val.{Fits}
 use borrow.Author.Tests.{eq-eqb, ne-eqb}
-use Rattle.line.specs.declared.MonoFont.{MonoFont}
 use Rattle.geometry.specs.declared.Point.{Point}
 use Rattle.characters.specs.Utf8.{chars}
+use Rattle.line.specs.declared.MonoFont.{MonoFont}
 use Rattle.line.specs.Line.{characterHeight, measuredWidth}
-use Rattle.line.specs.Limits.{FontLimits, LengthLimit, PlaceLimits}
+use Rattle.line.specs.Limits.{FontLimits, PlaceLimits}
 use Rattle.text.specs.declared.Alignment.{Alignment}
 use Rattle.text.specs.declared.Alignment.the-variants.{Left, Center, Right}
 use Rattle.text.specs.declared.LineHeight.{LineHeight}
 use Rattle.text.specs.declared.LineHeight.the-variants.{Pixels, Percent}
-use Rattle.text.specs.Text.{withoutReturn, alignedStart, lineHeight}
 use Rattle.text.specs.declared.TextStyle.{TextStyle}
+use Rattle.text.specs.Text.{withoutReturn, alignedStart, lineHeight}
 use Rattle.text.specs.Lines.{lineLength, lineFrom, lineCorner}
 use Rattle.text.specs.Limits.{heightValue, TextLimits, LineLimits}
 use Rattle.text.proofs.Feeds.{length-to-feed, length-line-from}
@@ -78,19 +78,14 @@ module _ (m : MonoFont) (limits : FontLimits m) where
   height-small (Pixels n) h = h
   height-small (Percent n) h = omega (arith, percent-small n h)
 
--- ---- what the functions of one line require
-
-module _ (n x y : ℕ) (row : List ℕ) (limits : LineLimits (length row) x y) (shown : List ℕ) (e : shown ≡ withoutReturn row) where
-  pub shown-short : LengthLimit (length shown)
-  shown-short = record { text-short = omega (arith, ap length e, length-without-return row) }
-
-  pub shown-place : (m : MonoFont) (t : TextStyle) (corner : Point) → corner ≡ lineCorner m t row x y → PlaceLimits (length shown) (corner .x) (corner .y)
-  unfolding lineCorner
-  shown-place m t corner d = record {
-    text-short = shown-short .text-short;
-    near-x = rw d (omega (arith, start-near (t .alignment) x (measuredWidth m (length (chars row)))));
-    near-top = rw d (omega arith);
-  }
+-- the corner of a line is a place from which its k bytes without the return can be drawn
+pub shown-place : (m : MonoFont) (t : TextStyle) (n k x y : ℕ) (row : List ℕ) (corner : Point) → LineLimits n x y → k ≤ n → corner ≡ lineCorner m t row x y → PlaceLimits k (corner .x) (corner .y)
+unfolding lineCorner
+shown-place m t n k x y row corner limits short e = record {
+  text-short = omega arith;
+  near-x = rw e (omega (arith, start-near (t .alignment) x (measuredWidth m (length (chars row)))));
+  near-top = rw e (omega arith);
+}
 
 -- ---- a loop over the lines of a text at (x, y)
 

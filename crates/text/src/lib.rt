@@ -79,6 +79,7 @@ fn length_of(stored: &[u8], new: &[u8], from_new: bool) -> usize
 // A line without one trailing return.
 fn without_return(row: &[u8]) -> &[u8]
     ensures { λ r. ⌜ now r ≡ withoutReturn (now (row .entry)) ⌝ }
+    ensures { λ r. ⌜ length (now r) ≤ length (now (row .entry)) ⌝ }
 {
     let n = row.len();
     if n == 0 {
@@ -157,8 +158,8 @@ fn draw_line(
     ensures { λ _. ⌜ now (frame .exit) ≡ paintIn fw clip (lineLayer (fontOf font (now (atlas .entry)) (now (mapping .entry))) (textOf (now (row .entry)) x y style «text_style») (placeLine font (textOf (now (row .entry)) x y style «text_style») (now (row .entry)) y)) (now (frame .entry)) ⌝ }
     ensures { λ r. ⌜ r ≡ lineNext font (textOf (now (row .entry)) x y style «text_style») (placeLine font (textOf (now (row .entry)) x y style «text_style») (now (row .entry)) y) .x ⌝ }
 {
-    let corner = line_corner(row, font, text_style, x, y);
     let shown = without_return(row);
+    let start = line_corner(row, font, text_style, x, y);
     line::draw_string(
         frame,
         fw,
@@ -169,8 +170,8 @@ fn draw_line(
         shown,
         font,
         style,
-        corner.x,
-        corner.y,
+        start.x,
+        start.y,
     )
 }
 
@@ -238,8 +239,8 @@ fn line_box(
     requires { ⌜ LineLimits (length (now row)) x y ⌝ }
     ensures { λ r. ⌜ r ≡ lineBox ink font (textOf (now (row .entry)) x y style «text_style») (placeLine font (textOf (now (row .entry)) x y style «text_style») (now (row .entry)) y) ⌝ }
 {
-    let corner = line_corner(row, font, text_style, x, y);
     let shown = without_return(row);
+    let corner = line_corner(row, font, text_style, x, y);
     if ink {
         return line::ink_box(shown, font, style, corner.x, corner.y);
     }

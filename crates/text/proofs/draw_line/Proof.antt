@@ -5,11 +5,11 @@ use Rattle.text.proofs.Drawing.{line-painted, line-next}
 use Rattle.text.proofs.draw_line.Statement.{statement}
 use Rattle.text.proofs.draw_line.Tie as tie
 
-line-corner-requires : tie.Need-line-corner-requires
-line-corner-requires c κs = search needs
-
 without-return-requires : tie.Need-without-return-requires
 without-return-requires c κs = search needs
+
+line-corner-requires : tie.Need-line-corner-requires
+line-corner-requires c κs = search needs
 
 draw-string-requires : tie.Need-draw-string-requires
 draw-string-requires c κs = (search needs, (search needs, (search needs, search shown-place)))
@@ -24,8 +24,8 @@ pub draw-line-spec : {M : Type 1} → statement M
 draw-line-spec =
     tie.close
     (tie.spec
-    line-corner-requires
     without-return-requires
+    line-corner-requires
     draw-string-requires
     same-length
     returns)

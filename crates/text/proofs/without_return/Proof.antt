@@ -7,7 +7,7 @@ use Rattle.text.proofs.without_return.Statement.{statement}
 use Rattle.text.proofs.without_return.Tie as tie
 
 returns : tie.Need-returns
-returns c = search return-none
+returns c = (search return-none, search needs)
 
 sub-end : tie.Need-sub-end
 sub-end c = search needs
@@ -19,10 +19,10 @@ slice-aggregate-result : tie.Need-slice-aggregate-result
 slice-aggregate-result c = simp length-take (omega arith)
 
 returns-2 : tie.Need-returns-2
-returns-2 c = search return-dropped
+returns-2 c = (search return-dropped, simp length-take (omega arith))
 
 returns-3 : tie.Need-returns-3
-returns-3 c = search return-absent
+returns-3 c = (search return-absent, search needs)
 
 pub without-return-spec : {M : Type 1} → statement M
 without-return-spec =
