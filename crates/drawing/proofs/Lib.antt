@@ -1,4 +1,5 @@
 pub mod Exact
 pub mod Damage
-pub mod Repaint
+pub mod Repainting
 pub mod Painting
+pub mod EditedInk

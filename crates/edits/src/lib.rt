@@ -142,7 +142,7 @@ fn store_style(sheet: &mut [u8], o: usize, style: &[u8])
 }
 
 // A signed number in range as a coordinate.
-fn biased(z: i32) -> u32
+pub fn biased(z: i32) -> u32
     requires { ⌜ inRange z ≡ true ⌝ }
     ensures { λ r. ⌜ r ≡ biased z ⌝ }
 {

@@ -1,8 +1,8 @@
 -- The walk over the characters of a line: what is drawn and what is left at each of them. Assumes nothing.
-use Prim.Native.Nat.{ℕ, _+_, _-_, _*_, _≤_, _<_}
+use Prim.Native.Nat.{ℕ, _+_, _*_, _≤_}
 use native.Mathlib.Omega.{arith}
 use mathlib.Core.Path.{_≡_, refl, sym, ap, _∙_}
-use mathlib.Core.List.{List, [], _∷_, map}
+use mathlib.Core.List.{List, map}
 use lib.ListN.{length}
 use Rattle.geometry.specs.declared.Rectangle.{Rectangle}
 use Rattle.geometry.specs.Layer.{transparent, within, paintIn}

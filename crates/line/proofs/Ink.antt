@@ -1,18 +1,16 @@
 -- A line paints nothing outside its ink box. Assumes nothing.
-use Prim.Native.Nat.{ℕ, zero, suc, _+_, _*_, _≤_, _<_, max}
+use Prim.Native.Nat.{ℕ, _+_}
 use native.Mathlib.Omega.{arith}
-use mathlib.Core.Path.{_≡_, refl, sym, ap, _∙_}
+use mathlib.Core.Path.{_≡_, refl, _∙_}
 use mathlib.Core.List.{List, [], _∷_, map}
 use lib.ListN.{length, length-map}
 use Rattle.geometry.specs.declared.OptionalGrey.{OptionalGrey}
 use Rattle.geometry.specs.Rectangle.{rectangle}
-use Rattle.geometry.specs.Layer.{filled}
 use Rattle.geometry.proofs.Rectangles.{In}
 use Rattle.geometry.proofs.Layers.{filled-out}
 use Rattle.characters.specs.Utf8.{chars}
 use Rattle.atlas.proofs.Glyphs.{glyph-out}
 use Rattle.line.specs.declared.DecorationDimensions.{DecorationDimensions}
-use Rattle.line.specs.declared.MonoFont.{MonoFont}
 use Rattle.line.specs.declared.MonoTextStyle.{MonoTextStyle}
 use Rattle.line.specs.Line.{Font, characterWidth, characterHeight, spacing, character, glyphs, spaced, advance, decoration, decorations, glyphIndex, string, inkHeight, inkBox}
 use Rattle.line.proofs.Advances.{spaced-advance}

@@ -1,14 +1,13 @@
 -- Layers painted in a clip: one after another, and one that the clip does not show. Assumes nothing.
 use Prim.Native.Nat.{ℕ, _+_, _-_, _≤_, _<_}
 use native.Mathlib.Omega.{arith}
-use mathlib.Core.Path.{_≡_, refl, sym, ap, _∙_}
-use mathlib.Core.Bool.{Bool, true, false, _&&_}
+use mathlib.Core.Path.{_≡_, sym, ap, _∙_}
+use mathlib.Core.Bool.{Bool, true, false}
 use mathlib.Core.List.{List}
 use mathlib.Core.Logic.{⊎-elim}
-use lib.Dec.{leb}
 use borrow.Author.Tests.{lt-leb}
 use Rattle.geometry.specs.declared.Rectangle.{Rectangle}
-use Rattle.geometry.specs.Layer.{Layer, over, within, paint, paintIn}
+use Rattle.geometry.specs.Layer.{Layer, over, within, paintIn}
 use Rattle.geometry.proofs.Rectangles.{In, in-or-out}
 use Rattle.geometry.proofs.Layers.{within-in, within-out, paint-over, paint-none, paint-same}
 use Rattle.line.specs.Clip.{disjoint}

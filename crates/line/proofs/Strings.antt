@@ -1,15 +1,14 @@
 -- What the functions that draw a line paint, in the form in which their proofs have the facts. Assumes nothing.
 use Prim.Native.Nat.{ℕ, _+_, _-_, _*_}
 use native.Mathlib.Omega.{arith}
-use mathlib.Core.Path.{_≡_, refl, sym, ap, _∙_}
+use mathlib.Core.Path.{_≡_, refl, sym, _∙_}
 use mathlib.Core.Bool.{Bool, true, false, cond}
-use mathlib.Core.List.{List, [], _∷_, map}
+use mathlib.Core.List.{List, map}
 use lib.ListN.{length}
 use Rattle.geometry.specs.declared.Rectangle.{Rectangle}
 use Rattle.geometry.specs.declared.OptionalGrey.{OptionalGrey}
-use Rattle.geometry.specs.declared.OptionalGrey.the-variants.{Unset, Set}
 use Rattle.geometry.specs.Rectangle.{rectangle}
-use Rattle.geometry.specs.Layer.{Layer, filled, paintIn}
+use Rattle.geometry.specs.Layer.{filled, paintIn}
 use Rattle.geometry.proofs.Layers.{within-none, paint-none}
 use Rattle.characters.specs.Utf8.{chars}
 use Rattle.atlas.specs.Atlas.{glyph}

@@ -1,18 +1,17 @@
 -- Records read by value: where an accepted sheet's pieces lie, and what is read is what the definitions read. Assumes nothing.
-use Prim.Native.Nat.{ℕ, _+_, _^_, _≤_, _<_}
-use mathlib.Core.Path.{_≡_}
+use Prim.Native.Nat.{ℕ, _+_, _-_, _^_, _≤_, _<_}
+use mathlib.Core.Path.{_≡_, ap, _∙_}
 use mathlib.Core.List.{List}
-use lib.ListN.{length, getD}
+use lib.ListN.{length, getD, take, drop}
+use lib.Seq.{getD-take, getD-drop}
 use native.Mathlib.Omega.{arith}
-use Rattle.geometry.specs.declared.OptionalGrey.{OptionalGrey}
-use Rattle.line.specs.declared.DecorationColor.{DecorationColor}
 use Rattle.line.specs.declared.MonoFont.{MonoFont}
 use Rattle.line.specs.declared.MonoTextStyle.{MonoTextStyle}
 use Rattle.line.specs.Limits.{FontLimits}
 use Rattle.sheet.specs.Fields
 use Rattle.sheet.specs.Fields.{u16, u32, fontAt, itemAt}
 use Rattle.sheet.specs.Requires.{FontListed, ItemListed}
-use Rattle.sheet.specs.Records.{optionalGrey, decorationColor, monoFont, monoTextStyle}
+use Rattle.sheet.specs.Records.{monoFont, monoTextStyle, styleOf}
 
 -- ---- pieces lie in the file
 
@@ -50,9 +49,20 @@ font-limits b n m g e base so sh uo uh =
       underline-low = omega arith;
     }
 
-pub style-is : (b : List ℕ) (n o : ℕ) (text background : OptionalGrey) (underline strikethrough : DecorationColor) → o ≡ itemAt b n
-    → text ≡ optionalGrey (getD b (o + 13) 0) (getD b (o + 14) 0) → background ≡ optionalGrey (getD b (o + 15) 0) (getD b (o + 16) 0)
-    → underline ≡ decorationColor (getD b (o + 17) 0) (getD b (o + 18) 0) → strikethrough ≡ decorationColor (getD b (o + 19) 0) (getD b (o + 20) 0)
-    → _≡_ {A = MonoTextStyle} (record { «text_color» = text; «background_color» = background; «underline_color» = underline; «strikethrough_color» = strikethrough }) (monoTextStyle b (itemAt b n))
-unfolding monoTextStyle
-style-is b n o text background underline strikethrough e et eb eu es = rw (et, eb, eu, es, e)
+pub style-is : (b : List ℕ) (n o : ℕ) (r : MonoTextStyle) → o ≡ itemAt b n → r ≡ styleOf (take (o + 13 + 8 - (o + 13)) (drop (o + 13) b)) → r ≡ monoTextStyle b (itemAt b n)
+unfolding monoTextStyle styleOf
+style-is b n o r e p =
+    let eight : o + 13 + 8 - (o + 13) ≡ 8 = omega arith in
+    let at : (k j : ℕ) → k < 8 → j ≡ itemAt b n + 13 + k → getD (take 8 (drop (o + 13) b)) k 0 ≡ getD b j 0 =
+    λ k j l q. getD-take 8 (drop (o + 13) b) k 0 l ∙ getD-drop (o + 13) b k 0 ∙ ap (λ (i : ℕ). getD b i 0) (omega arith) in
+    p ∙ rw (
+      eight,
+      at 0 (itemAt b n + 13) (omega arith) (omega arith),
+      at 1 (itemAt b n + 14) (omega arith) (omega arith),
+      at 2 (itemAt b n + 15) (omega arith) (omega arith),
+      at 3 (itemAt b n + 16) (omega arith) (omega arith),
+      at 4 (itemAt b n + 17) (omega arith) (omega arith),
+      at 5 (itemAt b n + 18) (omega arith) (omega arith),
+      at 6 (itemAt b n + 19) (omega arith) (omega arith),
+      at 7 (itemAt b n + 20) (omega arith) (omega arith),
+    )

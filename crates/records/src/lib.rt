@@ -19,10 +19,11 @@ use text::LineHeight;
 use text::TextStyle;
 ghost use mathlib.Core.Path.{_≡_};
 ghost use Prim.Native.Nat.{_≤_};
+ghost use lib.ListN.{length};
 ghost use Rattle.line.specs.Limits.{FontLimits};
 ghost use Rattle.sheet.specs.Fields.{coordinate, fontAt, itemAt, fontNumber, atlasBytes, mappingBytes, textBytes};
 ghost use Rattle.sheet.specs.Requires.{FontListed, ItemListed};
-ghost use Rattle.sheet.specs.Records.{optionalGrey, decorationColor, alignment, baseline, lineHeight, monoFont, monoTextStyle, textStyle, itemOf};
+ghost use Rattle.sheet.specs.Records.{optionalGrey, decorationColor, alignment, baseline, lineHeight, monoFont, monoTextStyle, styleOf, textStyle, itemOf};
 
 // Font `n`, but for its pieces.
 pub fn font_at(sheet: &[u8], n: u32) -> MonoFont
@@ -174,18 +175,27 @@ fn line_height(kind: u8, value: u32) -> LineHeight
     LineHeight::Percent(value)
 }
 
+// The colours that the 8 bytes of a style give.
+pub fn style_of(bytes: &[u8]) -> MonoTextStyle
+    requires { ⌜ length (now bytes) ≡ 8 ⌝ }
+    ensures { λ r. ⌜ r ≡ styleOf (now (bytes .entry)) ⌝ }
+{
+    MonoTextStyle {
+        text_color: optional_grey(bytes[0], bytes[1]),
+        background_color: optional_grey(bytes[2], bytes[3]),
+        underline_color: decoration_color(bytes[4], bytes[5]),
+        strikethrough_color: decoration_color(bytes[6], bytes[7]),
+    }
+}
+
 // Item `n`'s colours.
 pub fn mono_text_style(sheet: &[u8], n: u32) -> MonoTextStyle
     requires { ⌜ ItemListed (now sheet) n ⌝ }
     ensures { λ r. ⌜ r ≡ monoTextStyle (now (sheet .entry)) (itemAt (now (sheet .entry)) n) ⌝ }
 {
-    let o = item_offset(sheet, n);
-    MonoTextStyle {
-        text_color: optional_grey(sheet[o + 13], sheet[o + 14]),
-        background_color: optional_grey(sheet[o + 15], sheet[o + 16]),
-        underline_color: decoration_color(sheet[o + 17], sheet[o + 18]),
-        strikethrough_color: decoration_color(sheet[o + 19], sheet[o + 20]),
-    }
+    let from = item_offset(sheet, n) + 13;
+    let to = from + 8;
+    style_of(&sheet[from..to])
 }
 
 // How item `n`'s lines are set.

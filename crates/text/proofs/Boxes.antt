@@ -1,13 +1,14 @@
 -- The boxes of a text's lines joined one by one: what is joined and what is left at each line. Assumes nothing.
-use Prim.Native.Nat.{ℕ, _+_, _-_, _*_, _<_, _≤_}
+use Prim.Native.Nat.{ℕ, _+_, _*_, _<_, _≤_}
 use native.Mathlib.Omega.{arith}
 use mathlib.Core.Path.{_≡_, refl, sym, ap, _∙_}
 use mathlib.Core.Bool.{Bool, true, false, cond}
-use mathlib.Core.List.{List, [], _∷_, map}
+use mathlib.Core.List.{List, map}
 use lib.ListN.{length, drop}
 use Rattle.geometry.specs.declared.Point.{Point}
 use Rattle.geometry.specs.declared.Rectangle.{Rectangle}
-use Rattle.geometry.specs.Rectangle.{EndsFit, rectangle, isEmpty, envelope, join, joins}
+use Rattle.geometry.specs.Rectangle.{EndsFit, rectangle, join, joins}
+use Rattle.geometry.proofs.Rectangles.{ends-fit-join}
 use Rattle.characters.specs.Utf8.{chars}
 use Rattle.line.specs.declared.MonoFont.{MonoFont}
 use Rattle.line.specs.declared.MonoTextStyle.{MonoTextStyle}
@@ -15,7 +16,7 @@ use Rattle.line.specs.Line
 use Rattle.line.specs.Limits.{FontLimits}
 use Rattle.line.proofs.Advances.{width-small, advance-width}
 use Rattle.text.specs.declared.TextStyle.{TextStyle}
-use Rattle.text.specs.Text.{Text, PlacedLine, textOf, lines, withoutReturn, lineHeight, placeLine, placeLines, placedLines, nowhere, measuredBox, boundingBox, lineInk, inkBox}
+use Rattle.text.specs.Text.{Text, textOf, lines, withoutReturn, lineHeight, placeLine, placeLines, placedLines, measuredBox, boundingBox, lineInk, inkBox}
 use Rattle.text.specs.Lines.{lineFrom, lineCorner, lineBox, linesBox}
 use Rattle.text.specs.Limits.{TextLimits, LineLimits}
 use Rattle.text.proofs.Feeds.{lines-last, lines-more, end-of-line}
@@ -47,24 +48,12 @@ pub box-ends : (ink : Bool) (m : MonoFont) (s : MonoTextStyle) (t : TextStyle) (
 unfolding lineBox lineInk measuredBox placeLine Line.inkBox Line.inkHeight Line.measuredBox Line.measuredWidth
 box-ends ink m s t x y row r font limits e = rw e (go ink)
   where
-    n : ℕ
-    n = length (chars (withoutReturn row))
-
     wide : length (chars (withoutReturn row)) * (Line.characterWidth m + Line.spacing m) ≤ 8_388_608
     wide = width-small m font (withoutReturn row) (omega (arith, length-without-return row)) (length (chars (withoutReturn row))) refl
 
     go : (b : Bool) → EndsFit (cond b (lineInk m (textOf row x y s t) (placeLine m (textOf row x y s t) row y)) (measuredBox m (textOf row x y s t) (placeLine m (textOf row x y s t) row y)))
     go true = omega (arith, wide, advance-width m s (length (chars (withoutReturn row))), start-near (t .alignment) x (Line.measuredWidth m (length (chars row))))
     go false = omega (arith, wide, measured-height-small m s font, start-near (t .alignment) x (Line.measuredWidth m (length (chars row))))
-
-pub join-ends : (a b : Rectangle) → EndsFit a → EndsFit b → EndsFit (join a b)
-unfolding join envelope
-join-ends a b p q = go (isEmpty b) (isEmpty a)
-  where
-    go : (u v : Bool) → EndsFit (cond u a (cond v b (envelope a b)))
-    go true v = p
-    go false true = q
-    go false false = omega arith
 
 -- ---- `lines_box`
 
@@ -96,6 +85,9 @@ module _ (ink : Bool) (m : MonoFont) (text : List ℕ) (x y : ℕ) (s : MonoText
     unfolding placeLines joins
     boxes-last size z h = one-joined ∙ sym (rw (lines-last text from (from + length row) (j .start .reach) (end-of-line text row from e) (omega arith))) ∙ j .joined
 
+    pub boxes-end : FontLimits m → TextLimits (length text) x y (ts .«line_height») → EndsFit next
+    boxes-end font limits = rw q (ends-fit-join area shown (j .ends) (box-ends ink m s ts x at row shown font (line-limits text row x y from at (ts .«line_height») limits (j .start) e) p))
+
     pub boxes-step : (size height : ℕ) → FontLimits m → TextLimits (length text) x y (ts .«line_height») → height ≡ lineHeight m (ts .«line_height») → size ≡ length text → from + length row < size
         → BoxesJoined (from + length row + 1) (at + height) next
     unfolding placeLines joins
@@ -104,7 +96,7 @@ module _ (ink : Bool) (m : MonoFont) (text : List ℕ) (x y : ℕ) (s : MonoText
         record {
           joined = rw (h, one-joined) (sym (rw (lines-more text from (from + length row) (j .start .reach) d (omega arith))) ∙ j .joined);
           start = start-next text x y from (from + length row) at height m (ts .«line_height») font limits (j .start) h d (omega arith);
-          ends = rw q (join-ends area shown (j .ends) (box-ends ink m s ts x at row shown font (line-limits text row x y from at (ts .«line_height») limits (j .start) e) p));
+          ends = boxes-end font limits;
         }
 
 -- ---- the two boxes of a text

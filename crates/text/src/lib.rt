@@ -1,3 +1,4 @@
+// A text: its lines, where each stands, its drawing and its boxes.
 use geometry::Point;
 use geometry::Rectangle;
 use geometry::numbers::minus;
@@ -7,6 +8,7 @@ use line::MonoTextStyle;
 ghost use mathlib.Core.Path.{_≡_};
 ghost use Prim.Native.Nat.{_+_, _≤_};
 ghost use lib.ListN.{length, drop};
+ghost use Rattle.geometry.specs.Rectangle.{EndsFit};
 ghost use Rattle.geometry.specs.Layer.{paintIn};
 ghost use Rattle.geometry.specs.Canvas.{Canvas};
 ghost use Rattle.characters.specs.Utf8.{chars};
@@ -15,7 +17,7 @@ ghost use Rattle.line.specs.Line.{fontOf, measuredWidth};
 ghost use Rattle.line.specs.Limits.{FontLimits};
 ghost use Rattle.text.specs.Text.{textOf, withoutReturn, alignedStart, lineHeight, placeLine, lineLayer, layer, lineNext, next, boundingBox, inkBox};
 ghost use Rattle.text.specs.Lines.{lineLength, lineFrom, either, lineCorner, lineBox, linesBox};
-ghost use Rattle.text.specs.Limits.{TextLimits, HeightLimit, LineLimits};
+ghost use Rattle.text.specs.Limits.{TextLimits, HeightLimit, StartLimits, LineLimits};
 
 // Where the lines of a text stand beside its x.
 pub enum Alignment {
@@ -92,7 +94,7 @@ fn without_return(row: &[u8]) -> &[u8]
 // Where a line starts beside x; only an alignment that needs the line's width measures it.
 fn aligned_start(row: &[u8], font: MonoFont, alignment: Alignment, x: u32) -> u32
     requires { ⌜ FontLimits font ⌝ }
-    requires { ⌜ LineLimits (length (now row)) x 0 ⌝ }
+    requires { ⌜ StartLimits (length (now row)) x ⌝ }
     ensures { λ r. ⌜ r ≡ alignedStart alignment x (measuredWidth font (length (chars (now (row .entry))))) ⌝ }
 {
     match alignment {
@@ -259,6 +261,7 @@ fn lines_box<'a>(
     requires { ⌜ FontLimits font ⌝ }
     requires { ⌜ TextLimits (length (either (now stored) (now new) «from_new»)) x y («text_style» .«line_height») ⌝ }
     ensures { λ r. ⌜ r ≡ linesBox ink font (textOf (either (now (stored .entry)) (now (new .entry)) «from_new») x y style «text_style») ⌝ }
+    ensures { λ r. ⌜ EndsFit r ⌝ }
 {
     let kind = text_style.line_height;
     let height = line_height(font, kind);
@@ -330,6 +333,7 @@ pub fn ink_box_of<'a>(
     requires { ⌜ FontLimits font ⌝ }
     requires { ⌜ TextLimits (length (either (now stored) (now new) «from_new»)) x y («text_style» .«line_height») ⌝ }
     ensures { λ r. ⌜ r ≡ inkBox font (textOf (either (now (stored .entry)) (now (new .entry)) «from_new») x y style «text_style») ⌝ }
+    ensures { λ r. ⌜ EndsFit r ⌝ }
 {
     lines_box(stored, new, from_new, true, font, style, text_style, x, y)
 }

@@ -1,6 +1,7 @@
+-- `disjoint` meets its contract: the definition makes the same two tests. Assumes nothing.
 use borrow.Author.Tests.{le-leb, lt-leb}
-use Rattle.line.specs.Clip.{disjoint}
 use borrow.Author.Needs.{needs}
+use Rattle.line.specs.Clip.{disjoint}
 use Rattle.line.proofs.disjoint.Statement.{statement}
 use Rattle.line.proofs.disjoint.Tie as tie
 

@@ -1,5 +1,6 @@
-use Rattle.line.proofs.Strings.{character-unshown, character-painted}
+-- `draw_character` meets its contract: what the clip does not show changes nothing in it, and else the gap and the glyph are painted in turn. Assumes nothing.
 use borrow.Author.Needs.{needs}
+use Rattle.line.proofs.Strings.{character-unshown, character-painted}
 use Rattle.line.proofs.draw_character.Statement.{statement}
 use Rattle.line.proofs.draw_character.Tie as tie
 

@@ -1,6 +1,7 @@
+-- `draw_characters` meets its contract: the walk paints the glyphs, and glyphs that are not walked change nothing in the clip. Assumes nothing.
+use borrow.Author.Needs.{needs}
 use Rattle.line.proofs.Advances.{next-fits}
 use Rattle.line.proofs.Strings.{glyphs-unshown, advance-shown}
-use borrow.Author.Needs.{needs}
 use Rattle.line.proofs.draw_characters.Statement.{statement}
 use Rattle.line.proofs.draw_characters.Tie as tie
 
@@ -23,7 +24,7 @@ add-result : tie.Need-add-result
 add-result c = search next-fits
 
 returns-2 : tie.Need-returns-2
-returns-2 c = (search glyphs-unshown, cc)
+returns-2 c = (search glyphs-unshown, rw (c .advance .ensures))
 
 pub draw-characters-spec : {M : Type 1} → statement M
 draw-characters-spec =

@@ -1,5 +1,6 @@
-use Rattle.line.specs.Line.{decoration}
+-- `draw_decoration` meets its contract: the definition fills the same rectangle. Assumes nothing.
 use borrow.Author.Needs.{needs}
+use Rattle.line.specs.Line.{decoration}
 use Rattle.line.proofs.draw_decoration.Statement.{statement}
 use Rattle.line.proofs.draw_decoration.Tie as tie
 

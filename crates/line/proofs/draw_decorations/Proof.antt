@@ -1,5 +1,6 @@
-use Rattle.line.proofs.Strings.{decorations-painted}
+-- `draw_decorations` meets its contract: two decorations painted in turn are one layer. Assumes nothing.
 use borrow.Author.Needs.{needs}
+use Rattle.line.proofs.Strings.{decorations-painted}
 use Rattle.line.proofs.draw_decorations.Statement.{statement}
 use Rattle.line.proofs.draw_decorations.Tie as tie
 

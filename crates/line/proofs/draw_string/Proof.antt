@@ -1,5 +1,6 @@
-use Rattle.line.proofs.Strings.{string-painted}
+-- `draw_string` meets its contract: characters and decorations painted in turn are one layer. Assumes nothing.
 use borrow.Author.Needs.{needs}
+use Rattle.line.proofs.Strings.{string-painted}
 use Rattle.line.proofs.draw_string.Statement.{statement}
 use Rattle.line.proofs.draw_string.Tie as tie
 

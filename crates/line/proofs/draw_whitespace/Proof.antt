@@ -1,5 +1,6 @@
-use Rattle.line.proofs.Strings.{whitespace-painted}
+-- `draw_whitespace` meets its contract: background and decorations painted in turn are one layer. Assumes nothing.
 use borrow.Author.Needs.{needs}
+use Rattle.line.proofs.Strings.{whitespace-painted}
 use Rattle.line.proofs.draw_whitespace.Statement.{statement}
 use Rattle.line.proofs.draw_whitespace.Tie as tie
 

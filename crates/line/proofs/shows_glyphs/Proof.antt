@@ -1,6 +1,7 @@
+-- `shows_glyphs` meets its contract: the definition makes the same two tests. Assumes nothing.
 use mathlib.Core.Path.{sym, _∙_}
-use Rattle.line.specs.Clip.{showsGlyphs}
 use borrow.Author.Needs.{needs}
+use Rattle.line.specs.Clip.{showsGlyphs}
 use Rattle.line.proofs.shows_glyphs.Statement.{statement}
 use Rattle.line.proofs.shows_glyphs.Tie as tie
 

@@ -1,5 +1,6 @@
-use Rattle.line.specs.Line.{toColor}
+-- `to_color` meets its contract: the definition goes by the same cases. Assumes nothing.
 use borrow.Author.Needs.{needs}
+use Rattle.line.specs.Line.{toColor}
 use Rattle.line.proofs.to_color.Statement.{statement}
 use Rattle.line.proofs.to_color.Tie as tie
 

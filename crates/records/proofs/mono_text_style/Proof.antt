@@ -1,4 +1,4 @@
--- Each mode and grey is read where the record stores it.
+-- The style is read from the bytes at which the record stores it. Assumes nothing.
 use borrow.Author.Needs.{needs}
 use Rattle.records.proofs.Readings.{style-is}
 use Rattle.records.proofs.mono_text_style.Statement.{statement}
@@ -7,65 +7,23 @@ use Rattle.records.proofs.mono_text_style.Tie as tie
 item-offset-requires : tie.Need-item-offset-requires
 item-offset-requires c κs = search needs
 
-add-optional-grey : tie.Need-add-optional-grey
-add-optional-grey c = search needs
+add-from : tie.Need-add-from
+add-from c = search needs
 
-shared-slice-read-optional-grey : tie.Need-shared-slice-read-optional-grey
-shared-slice-read-optional-grey c = search needs
+add-to : tie.Need-add-to
+add-to c = search needs
 
-add-optional-grey-2 : tie.Need-add-optional-grey-2
-add-optional-grey-2 c = search needs
+sub-style-of : tie.Need-sub-style-of
+sub-style-of c = search needs
 
-shared-slice-read-optional-grey-2 : tie.Need-shared-slice-read-optional-grey-2
-shared-slice-read-optional-grey-2 c = search needs
+part-style-of-start : tie.Need-part-style-of-start
+part-style-of-start c = search needs
 
-optional-grey-requires : tie.Need-optional-grey-requires
-optional-grey-requires c κs = search needs
+part-style-of-end : tie.Need-part-style-of-end
+part-style-of-end c = search needs
 
-add-optional-grey-3 : tie.Need-add-optional-grey-3
-add-optional-grey-3 c = search needs
-
-shared-slice-read-optional-grey-3 : tie.Need-shared-slice-read-optional-grey-3
-shared-slice-read-optional-grey-3 c = search needs
-
-add-optional-grey-4 : tie.Need-add-optional-grey-4
-add-optional-grey-4 c = search needs
-
-shared-slice-read-optional-grey-4 : tie.Need-shared-slice-read-optional-grey-4
-shared-slice-read-optional-grey-4 c = search needs
-
-optional-grey-requires-2 : tie.Need-optional-grey-requires-2
-optional-grey-requires-2 c κs = search needs
-
-add-decoration-color : tie.Need-add-decoration-color
-add-decoration-color c = search needs
-
-shared-slice-read-decoration-color : tie.Need-shared-slice-read-decoration-color
-shared-slice-read-decoration-color c = search needs
-
-add-decoration-color-2 : tie.Need-add-decoration-color-2
-add-decoration-color-2 c = search needs
-
-shared-slice-read-decoration-color-2 : tie.Need-shared-slice-read-decoration-color-2
-shared-slice-read-decoration-color-2 c = search needs
-
-decoration-color-requires : tie.Need-decoration-color-requires
-decoration-color-requires c κs = search needs
-
-add-decoration-color-3 : tie.Need-add-decoration-color-3
-add-decoration-color-3 c = search needs
-
-shared-slice-read-decoration-color-3 : tie.Need-shared-slice-read-decoration-color-3
-shared-slice-read-decoration-color-3 c = search needs
-
-add-decoration-color-4 : tie.Need-add-decoration-color-4
-add-decoration-color-4 c = search needs
-
-shared-slice-read-decoration-color-4 : tie.Need-shared-slice-read-decoration-color-4
-shared-slice-read-decoration-color-4 c = search needs
-
-decoration-color-requires-2 : tie.Need-decoration-color-requires-2
-decoration-color-requires-2 c κs = search needs
+style-of-requires : tie.Need-style-of-requires
+style-of-requires c κs = search needs
 
 returns : tie.Need-returns
 returns c = search style-is
@@ -75,24 +33,10 @@ mono-text-style-spec =
     tie.close
     (tie.spec
     item-offset-requires
-    add-optional-grey
-    shared-slice-read-optional-grey
-    add-optional-grey-2
-    shared-slice-read-optional-grey-2
-    optional-grey-requires
-    add-optional-grey-3
-    shared-slice-read-optional-grey-3
-    add-optional-grey-4
-    shared-slice-read-optional-grey-4
-    optional-grey-requires-2
-    add-decoration-color
-    shared-slice-read-decoration-color
-    add-decoration-color-2
-    shared-slice-read-decoration-color-2
-    decoration-color-requires
-    add-decoration-color-3
-    shared-slice-read-decoration-color-3
-    add-decoration-color-4
-    shared-slice-read-decoration-color-4
-    decoration-color-requires-2
+    add-from
+    add-to
+    sub-style-of
+    part-style-of-start
+    part-style-of-end
+    style-of-requires
     returns)

@@ -1,6 +1,7 @@
-use Rattle.text.proofs.Places.{start-center, start-right}
-use Rattle.text.specs.Text.{alignedStart}
+-- `aligned_start` meets its contract: the definition goes by the same cases. Assumes nothing.
 use borrow.Author.Needs.{needs}
+use Rattle.text.specs.Text.{alignedStart}
+use Rattle.text.proofs.Places.{start-center, start-right}
 use Rattle.text.proofs.aligned_start.Statement.{statement}
 use Rattle.text.proofs.aligned_start.Tie as tie
 

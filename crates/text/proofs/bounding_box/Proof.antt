@@ -1,5 +1,6 @@
-use Rattle.text.proofs.Boxes.{lines-bounding-box}
+-- `bounding_box` meets its contract: it is the lines' box of measured boxes. Assumes nothing.
 use borrow.Author.Needs.{needs}
+use Rattle.text.proofs.Boxes.{lines-bounding-box}
 use Rattle.text.proofs.bounding_box.Statement.{statement}
 use Rattle.text.proofs.bounding_box.Tie as tie
 

@@ -1,3 +1,4 @@
+-- `draw` meets its contract: at each line the lines before it are drawn, and those from it on make up the rest. Assumes nothing.
 use Prim.Native.Nat.{_-_}
 use lib.ListN.{length}
 use borrow.Author.Needs.{needs}

@@ -1,6 +1,7 @@
+-- `draw_line` meets its contract: a placed line is painted from its corner on, without its return. Assumes nothing.
+use borrow.Author.Needs.{needs}
 use Rattle.text.proofs.Places.{shown-place}
 use Rattle.text.proofs.Drawing.{line-painted, line-next}
-use borrow.Author.Needs.{needs}
 use Rattle.text.proofs.draw_line.Statement.{statement}
 use Rattle.text.proofs.draw_line.Tie as tie
 

@@ -1,5 +1,6 @@
-use Rattle.text.proofs.Boxes.{lines-ink-box}
+-- `ink_box` meets its contract: it is the lines' box of ink boxes. Assumes nothing.
 use borrow.Author.Needs.{needs}
+use Rattle.text.proofs.Boxes.{lines-ink-box}
 use Rattle.text.proofs.ink_box.Statement.{statement}
 use Rattle.text.proofs.ink_box.Tie as tie
 

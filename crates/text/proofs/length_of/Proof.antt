@@ -1,3 +1,4 @@
+-- `length_of` meets its contract: the flag says which text it is. Assumes nothing.
 use Rattle.text.proofs.length_of.Statement.{statement}
 use Rattle.text.proofs.length_of.Tie as tie
 

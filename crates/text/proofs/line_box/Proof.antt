@@ -1,6 +1,7 @@
+-- `line_box` meets its contract: a placed line's boxes start at its corner and have no return. Assumes nothing.
+use borrow.Author.Needs.{needs}
 use Rattle.text.proofs.Places.{shown-short}
 use Rattle.text.proofs.Boxes.{line-ink-box, line-measured-box}
-use borrow.Author.Needs.{needs}
 use Rattle.text.proofs.line_box.Statement.{statement}
 use Rattle.text.proofs.line_box.Tie as tie
 

@@ -1,5 +1,6 @@
-use Rattle.text.specs.Lines.{lineCorner}
+-- `line_corner` meets its contract: the definition has the same start and top edge. Assumes nothing.
 use borrow.Author.Needs.{needs}
+use Rattle.text.specs.Lines.{lineCorner}
 use Rattle.text.proofs.line_corner.Statement.{statement}
 use Rattle.text.proofs.line_corner.Tie as tie
 
@@ -14,7 +15,7 @@ minus-requires c κs = search needs
 
 returns : tie.Need-returns
 unfolding lineCorner
-returns c = cc
+returns c = rw (c .before .before .aligned-start .ensures, c .minus .ensures, c .before .baseline-offset .ensures)
 
 pub line-corner-spec : {M : Type 1} → statement M
 line-corner-spec =

@@ -1,4 +1,4 @@
--- `line_end` meets its contract: what is left of the line at each byte before its end is as long as from there to the end. Assumes nothing.
+-- `line_end` meets its contract: from each byte before the line's end what is left of the line reaches to that end. Assumes nothing.
 use Prim.Native.Nat.{_+_, _-_}
 use mathlib.Core.Path.{_≡_}
 use lib.ListN.{length, drop}

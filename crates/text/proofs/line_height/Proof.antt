@@ -1,6 +1,7 @@
+-- `line_height` meets its contract: the definition goes by the same cases. Assumes nothing.
+use borrow.Author.Needs.{needs}
 use Rattle.text.specs.Text.{lineHeight}
 use Rattle.text.proofs.Places.{percent-fits}
-use borrow.Author.Needs.{needs}
 use Rattle.text.proofs.line_height.Statement.{statement}
 use Rattle.text.proofs.line_height.Tie as tie
 

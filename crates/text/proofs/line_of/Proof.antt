@@ -1,5 +1,6 @@
-use Rattle.text.proofs.Feeds.{either-new, either-stored, chosen-end, chosen-line}
+-- `line_of` meets its contract: the flag says of which text the line is a part, and a line ends within its text. Assumes nothing.
 use borrow.Author.Needs.{needs}
+use Rattle.text.proofs.Feeds.{either-new, either-stored, chosen-end, chosen-line}
 use Rattle.text.proofs.line_of.Statement.{statement}
 use Rattle.text.proofs.line_of.Tie as tie
 

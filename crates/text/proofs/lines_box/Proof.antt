@@ -1,10 +1,10 @@
+-- `lines_box` meets its contract: at each line the boxes of the lines before it are joined, and those from it on make up the rest. Assumes nothing.
 use Prim.Native.Nat.{_-_}
 use lib.ListN.{length}
 use borrow.Author.Needs.{needs}
 use Rattle.text.specs.Lines.{either}
-use Rattle.text.proofs.Feeds.{end-of-line, line-less}
 use Rattle.text.proofs.Places.{line-limits, at-fits}
-use Rattle.text.proofs.Boxes.{BoxesJoined, boxes-start, boxes-last, boxes-step, box-ends}
+use Rattle.text.proofs.Boxes.{BoxesJoined, boxes-start, boxes-last, boxes-end, boxes-step, box-ends}
 use Rattle.text.proofs.lines_box.Statement.{statement}
 use Rattle.text.proofs.lines_box.Tie as tie
 
@@ -38,7 +38,7 @@ join-requires : tie.Need-join-requires Inv-loop μ-loop
 join-requires c κs = (search needs, search (box-ends, line-limits))
 
 returns : tie.Need-returns Inv-loop μ-loop
-returns c = search boxes-last
+returns c = (search boxes-last, search boxes-end)
 
 add-from : tie.Need-add-from Inv-loop μ-loop
 add-from c = search needs

@@ -1,7 +1,8 @@
-use lib.ListN.{length-take}
+-- `without_return` meets its contract: the definition makes the same test of the last byte. Assumes nothing.
 use native.Mathlib.Omega.{arith}
-use Rattle.text.proofs.Places.{return-none, return-dropped, return-absent}
+use lib.ListN.{length-take}
 use borrow.Author.Needs.{needs}
+use Rattle.text.proofs.Places.{return-none, return-dropped, return-absent}
 use Rattle.text.proofs.without_return.Statement.{statement}
 use Rattle.text.proofs.without_return.Tie as tie
 

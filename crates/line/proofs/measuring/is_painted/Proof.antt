@@ -1,7 +1,8 @@
-use Rattle.line.proofs.Colors.{painted-text, painted-background}
+-- `is_painted` meets its contract: the definition makes the same two tests. Assumes nothing.
 use borrow.Author.Needs.{needs}
-use Rattle.line.proofs.is_painted.Statement.{statement}
-use Rattle.line.proofs.is_painted.Tie as tie
+use Rattle.line.proofs.Colors.{painted-text, painted-background}
+use Rattle.line.proofs.measuring.is_painted.Statement.{statement}
+use Rattle.line.proofs.measuring.is_painted.Tie as tie
 
 is-set-requires : tie.Need-is-set-requires
 is-set-requires c κs = search needs

@@ -1,7 +1,8 @@
-use Rattle.line.specs.Line.{inkBox}
+-- `ink_box` meets its contract: the definition has the same width and height. Assumes nothing.
 use borrow.Author.Needs.{needs}
-use Rattle.line.proofs.ink_box.Statement.{statement}
-use Rattle.line.proofs.ink_box.Tie as tie
+use Rattle.line.specs.Line.{inkBox}
+use Rattle.line.proofs.measuring.ink_box.Statement.{statement}
+use Rattle.line.proofs.measuring.ink_box.Tie as tie
 
 advance-requires : tie.Need-advance-requires
 advance-requires c κs = search needs
@@ -11,7 +12,7 @@ ink-height-requires c κs = search needs
 
 returns : tie.Need-returns
 unfolding inkBox
-returns c = cc
+returns c = rw (c .before .advance .ensures, c .ink-height .ensures)
 
 pub ink-box-spec : {M : Type 1} → statement M
 ink-box-spec = tie.close (tie.spec advance-requires ink-height-requires returns)

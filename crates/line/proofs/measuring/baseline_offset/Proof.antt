@@ -1,7 +1,8 @@
-use Rattle.line.specs.Line.{baselineOffset}
+-- `baseline_offset` meets its contract: the definition goes by the same cases. Assumes nothing.
 use borrow.Author.Needs.{needs}
-use Rattle.line.proofs.baseline_offset.Statement.{statement}
-use Rattle.line.proofs.baseline_offset.Tie as tie
+use Rattle.line.specs.Line.{baselineOffset}
+use Rattle.line.proofs.measuring.baseline_offset.Statement.{statement}
+use Rattle.line.proofs.measuring.baseline_offset.Tie as tie
 
 enum-told : tie.Need-enum-told
 enum-told c = search needs
@@ -27,11 +28,11 @@ returns c = search needs
 
 returns-2 : tie.Need-returns-2
 unfolding baselineOffset
-returns-2 c = cc
+returns-2 c = rw (c .before .enum-told2 .given .1) (c .minus .ensures)
 
 returns-3 : tie.Need-returns-3
 unfolding baselineOffset
-returns-3 c = cc
+returns-3 c = rw (c .before .enum-told3 .given .1, c .minus2 .ensures)
 
 returns-4 : tie.Need-returns-4
 unfolding baselineOffset

@@ -1,8 +1,9 @@
-use Rattle.line.proofs.Colors.{measured-underlined}
-use Rattle.line.specs.Line.{measuredHeight}
+-- `measured_height` meets its contract: the definition goes by the same cases. Assumes nothing.
 use borrow.Author.Needs.{needs}
-use Rattle.line.proofs.measured_height.Statement.{statement}
-use Rattle.line.proofs.measured_height.Tie as tie
+use Rattle.line.specs.Line.{measuredHeight}
+use Rattle.line.proofs.Colors.{measured-underlined}
+use Rattle.line.proofs.measuring.measured_height.Statement.{statement}
+use Rattle.line.proofs.measuring.measured_height.Tie as tie
 
 enum-told : tie.Need-enum-told
 enum-told c = search needs

@@ -1,7 +1,8 @@
-use Rattle.line.proofs.Advances.{advance-painted, advance-unpainted}
+-- `advance` meets its contract: with a grey set the spacing after the last character is taken off. Assumes nothing.
 use borrow.Author.Needs.{needs}
-use Rattle.line.proofs.advance.Statement.{statement}
-use Rattle.line.proofs.advance.Tie as tie
+use Rattle.line.proofs.Advances.{advance-painted, advance-unpainted}
+use Rattle.line.proofs.measuring.advance.Statement.{statement}
+use Rattle.line.proofs.measuring.advance.Tie as tie
 
 characters-width-requires : tie.Need-characters-width-requires
 characters-width-requires c κs = search needs

@@ -1,7 +1,8 @@
-use Rattle.line.proofs.Advances.{count-fits, width-fits}
+-- `characters_width` meets its contract: a text has no more characters than bytes, so the product fits. Assumes nothing.
 use borrow.Author.Needs.{needs}
-use Rattle.line.proofs.characters_width.Statement.{statement}
-use Rattle.line.proofs.characters_width.Tie as tie
+use Rattle.line.proofs.Advances.{count-fits, width-fits}
+use Rattle.line.proofs.measuring.characters_width.Statement.{statement}
+use Rattle.line.proofs.measuring.characters_width.Tie as tie
 
 add-pitch : tie.Need-add-pitch
 add-pitch c = search needs
@@ -16,7 +17,7 @@ mul-result : tie.Need-mul-result
 mul-result c = search width-fits
 
 returns : tie.Need-returns
-returns c = cc
+returns c = rw (c .count .ensures)
 
 pub characters-width-spec : {M : Type 1} → statement M
 characters-width-spec = tie.close (tie.spec add-pitch count-requires cast-n mul-result returns)

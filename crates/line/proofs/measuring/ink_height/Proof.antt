@@ -1,7 +1,8 @@
-use Rattle.line.specs.Line.{inkHeight}
+-- `ink_height` meets its contract: the definition takes the same maxima. Assumes nothing.
 use borrow.Author.Needs.{needs}
-use Rattle.line.proofs.ink_height.Statement.{statement}
-use Rattle.line.proofs.ink_height.Tie as tie
+use Rattle.line.specs.Line.{inkHeight}
+use Rattle.line.proofs.measuring.ink_height.Statement.{statement}
+use Rattle.line.proofs.measuring.ink_height.Tie as tie
 
 add-strikethrough : tie.Need-add-strikethrough
 add-strikethrough c = search needs
@@ -17,7 +18,7 @@ greatest-requires-2 c κs = search needs
 
 returns : tie.Need-returns
 unfolding inkHeight
-returns c = cc
+returns c = rw (c .greatest2 .ensures, c .before .greatest .ensures)
 
 pub ink-height-spec : {M : Type 1} → statement M
 ink-height-spec =
