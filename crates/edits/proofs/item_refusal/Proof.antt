@@ -1,4 +1,4 @@
--- Each return is one side of the test.
+-- Each return is one side of the test. Assumes nothing.
 use borrow.Author.Needs.{needs}
 use Rattle.edits.proofs.Refused.{no-item, some-item}
 use Rattle.edits.proofs.item_refusal.Statement.{statement}

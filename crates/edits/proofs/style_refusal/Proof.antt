@@ -1,4 +1,4 @@
--- Each return follows from the tests passed and the one that failed.
+-- Each return follows from the tests passed and the one that failed. Assumes nothing.
 use borrow.Author.Needs.{needs}
 use Rattle.sheet.specs.Edits.{styleRefusal}
 use Rattle.edits.proofs.Refused.{not-listed, listed, not-eight, modes-known, mode-unknown}
