@@ -1,6 +1,6 @@
 -- One law for each test of an edit: what its outcome makes of the chain of refusals. Assumes nothing.
 use Prim.Native.Nat.{ℕ, _+_, _≤_, _<_}
-use mathlib.Core.Path.{_≡_}
+use mathlib.Core.Path.{_≡_, sym, _∙_}
 use mathlib.Core.Bool.{Bool, true, false, _&&_}
 use mathlib.Core.List.{List}
 use lib.Dec.{ltb, leb, eqb}
@@ -10,24 +10,40 @@ use native.Mathlib.Omega.{arith}
 use mir.Syntax.{w32}
 use mir.Val.{SFits}
 use mir.Facts.{toZ-ofZ}
-use borrow.Author.Tests.{lt-ltb, le-ltb, le-leb, lt-leb, eq-eqb, ne-eqb}
+use borrow.Author.Tests.{lt-ltb, le-ltb, ltb-true, le-leb, lt-leb, eq-eqb, ne-eqb}
 use Rattle.characters.specs.Refusal.{need}
 use Rattle.sheet.specs.Fields.{u16, itemCount, itemAt, slotSize}
 use Rattle.sheet.specs.Accepted.{Accepted}
 use Rattle.sheet.specs.Edits.{inRange}
+use Rattle.sheet.proofs.Refusals.{need-zero}
 use Rattle.edits.proofs.Signed.{read}
 
 -- ---- 12
 
-module _ (b : List ℕ) (i n rest : ℕ) (e : n ≡ itemCount b) where
-  pub no-item : n ≤ i → 12 ≡ need (ltb i (itemCount b)) 12 rest
+module _ (b : List ℕ) (i n : ℕ) (e : n ≡ itemCount b) where
+  pub no-item : n ≤ i → 12 ≡ need (ltb i (itemCount b)) 12 0
   no-item h = rw (← e, le-ltb i n h)
 
-  pub some-item : (r : ℕ) → i < n → r ≡ rest → r ≡ need (ltb i (itemCount b)) 12 rest
-  some-item r h q = rw (← e, lt-ltb i n h) q
+  pub some-item : i < n → 0 ≡ need (ltb i (itemCount b)) 12 0
+  some-item h = rw (← e, lt-ltb i n h)
 
-pub record-in : (b : List ℕ) (i n o : ℕ) → Accepted b → n ≡ itemCount b → i < n → o ≡ itemAt b i → o + 8 + 2 ≤ length b
-record-in b i n o g e h q = omega (arith, g .laid-out .item-in i (omega arith))
+refused-first : (t : Bool) (n rest : ℕ) → n ≡ need t 12 0 → (n ≡ 0 → ⊥) → n ≡ need t 12 rest
+refused-first true n rest e h = absurd (h e)
+refused-first false n rest e h = e
+
+module _ (b : List ℕ) (i n : ℕ) (e : n ≡ need (ltb i (itemCount b)) 12 0) where
+  pub not-listed : (rest : ℕ) → (n ≡ 0 → ⊥) → n ≡ need (ltb i (itemCount b)) 12 rest
+  not-listed rest h = refused-first (ltb i (itemCount b)) n rest e h
+
+  module _ (z : n ≡ 0) where
+    test : ltb i (itemCount b) ≡ true
+    test = need-zero (ltb i (itemCount b)) 11 0 (sym e ∙ z) .0
+
+    pub listed : (r rest : ℕ) → r ≡ rest → r ≡ need (ltb i (itemCount b)) 12 rest
+    listed r rest q = rw test q
+
+    pub record-in : (o : ℕ) → Accepted b → o ≡ itemAt b i → o + 8 + 2 ≤ length b
+    record-in o g q = omega (arith, g .laid-out .item-in i (ltb-true i (itemCount b) test))
 
 -- ---- 13
 

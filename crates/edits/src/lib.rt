@@ -8,21 +8,35 @@ ghost use mathlib.Core.Path.{_≡_};
 ghost use mathlib.Core.Bool.{true};
 ghost use mathlib.Core.List.{_++_};
 ghost use Prim.Native.Nat.{_+_, _-_, _≤_};
+ghost use lib.Dec.{ltb};
 ghost use lib.ListN.{length, getD, replicate};
 ghost use lib.Seq.{sets};
-ghost use Rattle.sheet.specs.Fields.{le16, itemAt};
+ghost use Rattle.characters.specs.Refusal.{need};
+ghost use Rattle.sheet.specs.Fields.{le16, itemCount, itemAt};
 ghost use Rattle.sheet.specs.Accepted.{Accepted};
 ghost use Rattle.sheet.specs.Requires.{EditAllowed, TextFits, StyleFits};
 ghost use Rattle.sheet.specs.Edits.{newText, newPlace, newStyle, inRange, textRefusal, placeRefusal, styleRefusal, biased, putText, putPlace, putStyle};
+
+// Refusal 12: 12 if the sheet has no such item, else 0.
+fn item_refusal(sheet: &[u8], item: u32) -> u32
+    requires { ⌜ Accepted (now sheet) ⌝ }
+    ensures { λ r. ⌜ r ≡ need (ltb item (itemCount (now (sheet .entry)))) 12 0 ⌝ }
+{
+    let items = item_count(sheet);
+    if items <= item {
+        return 12;
+    }
+    0
+}
 
 // Refusals 12, 13 and 14 of a new text.
 pub fn text_refusal(sheet: &[u8], item: u32, text: &[u8]) -> u32
     requires { ⌜ Accepted (now sheet) ⌝ }
     ensures { λ r. ⌜ r ≡ textRefusal (now (sheet .entry)) item (now (text .entry)) ⌝ }
 {
-    let items = item_count(sheet);
-    if items <= item {
-        return 12;
+    let n = item_refusal(sheet, item);
+    if n != 0 {
+        return n;
     }
     let o = item_offset(sheet, item);
     let size = u16_at(sheet, o + 8);
@@ -47,9 +61,9 @@ pub fn place_refusal(sheet: &[u8], item: u32, x: i32, y: i32) -> u32
     requires { ⌜ Accepted (now sheet) ⌝ }
     ensures { λ r. ⌜ r ≡ placeRefusal (now (sheet .entry)) item x y ⌝ }
 {
-    let items = item_count(sheet);
-    if items <= item {
-        return 12;
+    let n = item_refusal(sheet, item);
+    if n != 0 {
+        return n;
     }
     if in_range(x) & in_range(y) {
         return 0;
@@ -62,9 +76,9 @@ pub fn style_refusal(sheet: &[u8], item: u32, style: &[u8]) -> u32
     requires { ⌜ Accepted (now sheet) ⌝ }
     ensures { λ r. ⌜ r ≡ styleRefusal (now (sheet .entry)) item (now (style .entry)) ⌝ }
 {
-    let items = item_count(sheet);
-    if items <= item {
-        return 12;
+    let n = item_refusal(sheet, item);
+    if n != 0 {
+        return n;
     }
     if style.len() != 8 {
         return 16;

@@ -1,4 +1,4 @@
--- A number in range and 2^21 have a sum that is not negative and fits.
+-- A number in range and 2^21 have a sum that is not negative and fits. Assumes nothing.
 use Rattle.edits.proofs.Signed.{sum-fits, sum-casts, sum-is}
 use Rattle.edits.proofs.biased.Statement.{statement}
 use Rattle.edits.proofs.biased.Tie as tie

@@ -1,4 +1,4 @@
--- A list has 0 past its end.
+-- A list has 0 past its end. Assumes nothing.
 use borrow.Author.Needs.{needs}
 use Rattle.edits.proofs.Stored.{past-end}
 use Rattle.edits.proofs.byte_or_zero.Statement.{statement}

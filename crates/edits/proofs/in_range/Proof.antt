@@ -1,4 +1,4 @@
--- The two tests are the ends of the range.
+-- The two tests are the ends of the range. Assumes nothing.
 use Rattle.edits.proofs.Signed.{below, not-below}
 use Rattle.edits.proofs.in_range.Statement.{statement}
 use Rattle.edits.proofs.in_range.Tie as tie

@@ -1,4 +1,4 @@
--- Coordinates that are not refused are in range, and the item is listed.
+-- Coordinates that are not refused are in range, and the item is listed. Assumes nothing.
 use borrow.Author.Needs.{needs}
 use Rattle.edits.proofs.Stored.{x-in-range, y-in-range, place-fits, place-put}
 use Rattle.edits.proofs.put_place.Statement.{statement}

@@ -1,4 +1,4 @@
--- A style that is not refused fits an item that is listed.
+-- A style that is not refused fits an item that is listed. Assumes nothing.
 use borrow.Author.Needs.{needs}
 use Rattle.edits.proofs.Stored.{style-fits}
 use Rattle.edits.proofs.put_style.Statement.{statement}

@@ -1,4 +1,4 @@
--- A text that is not refused fits the slot of an item that is listed.
+-- A text that is not refused fits the slot of an item that is listed. Assumes nothing.
 use borrow.Author.Needs.{needs}
 use Rattle.edits.proofs.Stored.{text-fits}
 use Rattle.edits.proofs.put_text.Statement.{statement}

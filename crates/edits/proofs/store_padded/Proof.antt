@@ -1,4 +1,4 @@
--- The loop keeps that the places passed hold the bytes, or 0 past their end.
+-- The loop keeps that the places passed hold the bytes, or 0 past their end. Assumes nothing.
 use Prim.Native.Nat.{ℕ, _≤_, _<_, _-_}
 use mathlib.Core.Path.{_≡_}
 use lib.ListN.{length, getD}

@@ -1,4 +1,4 @@
--- The two stores are the definition's.
+-- The two stores are the definition's. Assumes nothing.
 use borrow.Author.Needs.{needs}
 use Rattle.edits.proofs.Stored.{place-stored}
 use Rattle.edits.proofs.store_place.Statement.{statement}

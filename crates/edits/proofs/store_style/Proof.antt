@@ -1,4 +1,4 @@
--- The part that is replaced holds just the style.
+-- The part that is replaced holds just the style. Assumes nothing.
 use borrow.Author.Needs.{needs}
 use Rattle.edits.proofs.Stored.{style-stored}
 use Rattle.edits.proofs.store_style.Statement.{statement}

@@ -1,4 +1,4 @@
--- The two stores are the definition's; the slot is the part of the file that the second one replaces.
+-- The two stores are the definition's; the slot is the part of the file that the second one replaces. Assumes nothing.
 use borrow.Author.Needs.{needs}
 use Rattle.edits.proofs.Stored.{text-stored}
 use Rattle.edits.proofs.store_text.Statement.{statement}

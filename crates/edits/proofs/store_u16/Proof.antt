@@ -1,4 +1,4 @@
--- The two bytes are those of the number.
+-- The two bytes are those of the number. Assumes nothing.
 use lib.ListN.{length-set}
 use native.Mathlib.Omega.{arith}
 use borrow.Author.Needs.{needs}

@@ -1,20 +1,20 @@
--- Each return follows from the tests passed and the one that failed.
+-- Each return follows from the tests passed and the one that failed. Assumes nothing.
 use borrow.Author.Needs.{needs}
 use Rattle.sheet.specs.Edits.{styleRefusal}
-use Rattle.edits.proofs.Refused.{no-item, some-item, not-eight, modes-known, mode-unknown}
+use Rattle.edits.proofs.Refused.{not-listed, listed, not-eight, modes-known, mode-unknown}
 use Rattle.edits.proofs.style_refusal.Statement.{statement}
 use Rattle.edits.proofs.style_refusal.Tie as tie
 
-item-count-requires : tie.Need-item-count-requires
-item-count-requires c κs = search needs
+item-refusal-requires : tie.Need-item-refusal-requires
+item-refusal-requires c κs = search needs
 
 returns : tie.Need-returns
 unfolding styleRefusal
-returns c = search no-item
+returns c = search not-listed
 
 returns-2 : tie.Need-returns-2
 unfolding styleRefusal
-returns-2 c = search (some-item, not-eight)
+returns-2 c = search (listed, not-eight)
 
 shared-slice-read-good-modes : tie.Need-shared-slice-read-good-modes
 shared-slice-read-good-modes c = search needs
@@ -33,17 +33,17 @@ good-modes-requires c κs = search needs
 
 returns-3 : tie.Need-returns-3
 unfolding styleRefusal
-returns-3 c = search (some-item, modes-known)
+returns-3 c = search (listed, modes-known)
 
 returns-4 : tie.Need-returns-4
 unfolding styleRefusal
-returns-4 c = search (some-item, mode-unknown)
+returns-4 c = search (listed, mode-unknown)
 
 pub style-refusal-spec : {M : Type 1} → statement M
 style-refusal-spec =
     tie.close
     (tie.spec
-    item-count-requires
+    item-refusal-requires
     returns
     returns-2
     shared-slice-read-good-modes

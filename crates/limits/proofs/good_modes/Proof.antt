@@ -1,4 +1,4 @@
--- Each return follows from the tests passed and the one that failed.
+-- Each return follows from the tests passed and the one that failed. Assumes nothing.
 use Rattle.limits.specs.Limits.{goodModes}
 use Rattle.characters.proofs.Tests.{tests}
 use Rattle.limits.proofs.good_modes.Statement.{statement}

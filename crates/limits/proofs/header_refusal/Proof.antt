@@ -1,4 +1,4 @@
--- Each return follows from the tests passed and the one that failed; sides of at most 512 have a product that fits.
+-- Each return follows from the tests passed and the one that failed; sides of at most 512 have a product that fits. Assumes nothing.
 use lib.Dec.{lit<}
 use borrow.Author.Needs.{needs}
 use native.Mathlib.Nat.{lt-of-le-of-lt, mul-le-mul}

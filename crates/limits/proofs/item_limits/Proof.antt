@@ -1,4 +1,4 @@
--- Each return follows from the tests passed and the one that failed.
+-- Each return follows from the tests passed and the one that failed. Assumes nothing.
 use borrow.Author.Needs.{needs}
 use Rattle.limits.proofs.Modes.{and-false, mode-unknown, item-passes}
 use Rattle.limits.specs.Limits.{itemLimits}

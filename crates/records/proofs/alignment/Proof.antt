@@ -1,4 +1,4 @@
--- Each return follows from the codes passed.
+-- Each return follows from the codes passed. Assumes nothing.
 use Rattle.records.proofs.Codes.{is-left, is-center, is-right}
 use Rattle.records.proofs.alignment.Statement.{statement}
 use Rattle.records.proofs.alignment.Tie as tie

@@ -1,4 +1,4 @@
--- Each return follows from the codes passed.
+-- Each return follows from the codes passed. Assumes nothing.
 use Rattle.records.proofs.Codes.{is-top, is-bottom, is-middle, is-alphabetic}
 use Rattle.records.proofs.baseline.Statement.{statement}
 use Rattle.records.proofs.baseline.Tie as tie

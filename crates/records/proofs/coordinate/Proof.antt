@@ -1,4 +1,4 @@
--- Each return follows from the test.
+-- Each return follows from the test. Assumes nothing.
 use borrow.Author.Needs.{needs}
 use native.Mathlib.Omega.{arith}
 use Rattle.sheet.specs.Fields.{coordinate}

@@ -1,4 +1,4 @@
--- Each return follows from the codes passed.
+-- Each return follows from the codes passed. Assumes nothing.
 use Rattle.records.proofs.Codes.{is-none, is-text-color, is-custom}
 use Rattle.records.proofs.decoration_color.Statement.{statement}
 use Rattle.records.proofs.decoration_color.Tie as tie

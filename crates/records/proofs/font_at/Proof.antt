@@ -1,4 +1,4 @@
--- Each number is read where the record stores it.
+-- Each number is read where the record stores it. Assumes nothing.
 use borrow.Author.Needs.{needs}
 use native.Mathlib.Omega.{arith}
 use Rattle.sheet.specs.Records.{monoFont}

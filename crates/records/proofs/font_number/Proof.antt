@@ -1,4 +1,4 @@
--- The byte is read where the record stores it.
+-- The byte is read where the record stores it. Assumes nothing.
 use borrow.Author.Needs.{needs}
 use Rattle.records.proofs.font_number.Statement.{statement}
 use Rattle.records.proofs.font_number.Tie as tie

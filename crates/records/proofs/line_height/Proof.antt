@@ -1,4 +1,4 @@
--- Each return follows from the codes passed.
+-- Each return follows from the codes passed. Assumes nothing.
 use Rattle.records.proofs.Codes.{is-pixels, is-percent}
 use Rattle.records.proofs.line_height.Statement.{statement}
 use Rattle.records.proofs.line_height.Tie as tie

@@ -1,4 +1,4 @@
--- The piece lies in the file, where the record says.
+-- The piece lies in the file, where the record says. Assumes nothing.
 use borrow.Author.Needs.{needs}
 use Rattle.records.proofs.Readings.{mapping-in}
 use Rattle.records.proofs.mapping_bytes.Statement.{statement}

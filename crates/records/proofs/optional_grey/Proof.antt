@@ -1,4 +1,4 @@
--- Each return follows from the codes passed.
+-- Each return follows from the codes passed. Assumes nothing.
 use Rattle.records.proofs.Codes.{is-unset, is-set}
 use Rattle.records.proofs.optional_grey.Statement.{statement}
 use Rattle.records.proofs.optional_grey.Tie as tie

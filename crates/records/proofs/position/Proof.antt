@@ -1,4 +1,4 @@
--- Each coordinate is read where the record stores it.
+-- Each coordinate is read where the record stores it. Assumes nothing.
 use borrow.Author.Needs.{needs}
 use native.Mathlib.Omega.{arith}
 use Rattle.sheet.specs.Records.{itemOf}

@@ -1,4 +1,4 @@
--- Each code is read where the record stores it.
+-- Each code is read where the record stores it. Assumes nothing.
 use borrow.Author.Needs.{needs}
 use Rattle.sheet.specs.Records.{textStyle}
 use Rattle.records.proofs.text_style.Statement.{statement}

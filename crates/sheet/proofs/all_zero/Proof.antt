@@ -1,4 +1,4 @@
--- The loop keeps that the bytes left are zeros where all are.
+-- The loop keeps that the bytes left are zeros where all are. Assumes nothing.
 use Prim.Native.Nat.{_≤_, _-_}
 use mathlib.Core.Path.{_≡_}
 use lib.ListN.{length, drop}

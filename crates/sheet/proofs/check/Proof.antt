@@ -1,4 +1,4 @@
--- Each group of tests runs once those before it pass, which is what it requires.
+-- Each group of tests runs once those before it pass, which is what it requires. Assumes nothing.
 use borrow.Author.Needs.{needs}
 use Rattle.sheet.proofs.Outcomes.{header-refused, header-passed, layout-refused, layout-passed, fonts-refused, items-decide}
 use Rattle.sheet.proofs.check.Statement.{statement}

@@ -1,4 +1,4 @@
--- Numbers that pass leave the mapping to decide, which lies in the file.
+-- Numbers that pass leave the mapping to decide, which lies in the file. Assumes nothing.
 use borrow.Author.Needs.{needs}
 use Rattle.sheet.proofs.Outcomes.{font-refused, font-mapping, mapping-in}
 use Rattle.sheet.proofs.check_font.Statement.{statement}

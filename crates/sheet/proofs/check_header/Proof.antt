@@ -1,4 +1,4 @@
--- A file shorter than its header is refused at once; else the header's numbers are those that the definition reads.
+-- A file shorter than its header is refused at once; else the header's numbers are those that the definition reads. Assumes nothing.
 use borrow.Author.Needs.{needs}
 use Rattle.limits.specs.Limits.{headerRefusal}
 use Rattle.sheet.specs.Check.{checkHeader}

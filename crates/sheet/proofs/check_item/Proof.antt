@@ -1,4 +1,4 @@
--- Numbers that pass keep the text in its slot, so text and tail lie in the file; the tail is tested before the text.
+-- Numbers that pass keep the text in its slot, so text and tail lie in the file; the tail is tested before the text. Assumes nothing.
 use borrow.Author.Needs.{needs}
 use Rattle.sheet.proofs.Outcomes.{item-refused, text-fits, tail-in, text-in, item-tail, item-text}
 use Rattle.sheet.proofs.check_item.Statement.{statement}

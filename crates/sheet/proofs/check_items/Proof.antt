@@ -1,4 +1,4 @@
--- The loop keeps the first refusal of the items that are left.
+-- The loop keeps the first refusal of the items that are left. Assumes nothing.
 use Prim.Native.Nat.{_≤_, _-_}
 use mathlib.Core.Path.{_≡_}
 use borrow.Author.Needs.{needs}

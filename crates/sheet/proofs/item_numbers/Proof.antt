@@ -1,4 +1,4 @@
--- The numbers are those that the definition reads.
+-- The numbers are those that the definition reads. Assumes nothing.
 use borrow.Author.Needs.{needs}
 use Rattle.sheet.proofs.Outcomes.{item-numbers-are}
 use Rattle.sheet.proofs.item_numbers.Statement.{statement}

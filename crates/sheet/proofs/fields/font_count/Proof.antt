@@ -1,4 +1,4 @@
--- The byte is read where the header stores it.
+-- The byte is read where the header stores it. Assumes nothing.
 use borrow.Author.Needs.{needs}
 use Rattle.sheet.specs.Fields.{fontCount}
 use Rattle.sheet.proofs.fields.font_count.Statement.{statement}

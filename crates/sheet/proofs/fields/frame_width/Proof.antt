@@ -1,4 +1,4 @@
--- The number is read where the header stores it.
+-- The number is read where the header stores it. Assumes nothing.
 use borrow.Author.Needs.{needs}
 use Rattle.sheet.specs.Fields.{frameWidth}
 use Rattle.sheet.proofs.fields.frame_width.Statement.{statement}

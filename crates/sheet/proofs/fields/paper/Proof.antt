@@ -1,4 +1,4 @@
--- The byte is read where the header stores it.
+-- The byte is read where the header stores it. Assumes nothing.
 use borrow.Author.Needs.{needs}
 use Rattle.sheet.specs.Fields.{paper}
 use Rattle.sheet.proofs.fields.paper.Statement.{statement}

@@ -1,4 +1,4 @@
--- A slice from a to a + n is the part of n bytes from a on.
+-- A slice from a to a + n is the part of n bytes from a on. Assumes nothing.
 use borrow.Author.Needs.{needs}
 use Rattle.sheet.proofs.Bytes.{slice-part}
 use Rattle.sheet.proofs.fields.part.Statement.{statement}

@@ -1,4 +1,4 @@
--- The bytes that are read are the four that the definition names.
+-- The bytes that are read are the four that the definition names. Assumes nothing.
 use native.Mathlib.Omega.{arith}
 use borrow.Author.Needs.{needs}
 use Rattle.sheet.specs.Fields.{u32}

@@ -1,4 +1,4 @@
--- The loop keeps where the pieces of the fonts that are left end, from p on.
+-- The loop keeps where the pieces of the fonts that are left end, from p on. Assumes nothing.
 use Prim.Native.Nat.{_≤_, _-_}
 use mathlib.Core.Path.{_≡_}
 use borrow.Author.Needs.{needs}

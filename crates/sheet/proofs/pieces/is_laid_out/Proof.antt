@@ -1,4 +1,4 @@
--- Each way out is one of the three tests of the layout; records that pass the end leave no room for the pieces.
+-- Each way out is one of the three tests of the layout; records that pass the end leave no room for the pieces. Assumes nothing.
 use borrow.Author.Needs.{needs}
 use Rattle.sheet.proofs.Outcomes.{fonts-elsewhere, items-elsewhere, records-out, pieces-off, laid-out-is}
 use Rattle.sheet.proofs.pieces.is_laid_out.Statement.{statement}

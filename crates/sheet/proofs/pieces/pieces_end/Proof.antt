@@ -1,4 +1,4 @@
--- What the fonts reach is where the slots start.
+-- What the fonts reach is where the slots start. Assumes nothing.
 use borrow.Author.Needs.{needs}
 use Rattle.sheet.proofs.Outcomes.{fonts-off, slots-from}
 use Rattle.sheet.proofs.pieces.pieces_end.Statement.{statement}
