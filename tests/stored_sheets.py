@@ -1,7 +1,8 @@
 """Makes crates/stored_sheets/stdin and crates/stored_sheets/stdout again.
 
-The sheets and the check below are written from document 01 and RFC 3629 alone. Beside each sheet stands, by hand, the
-number of its first refusal, or 0; the check must give the same. Prints the number, the refusal and the name of each sheet.
+The sheets and the check below follow document 01 and RFC 3629, and use nothing of the crates. Beside each sheet, or each group
+of sheets, stands the number of the refusal that is meant, or 0; the check must give the same. In a pair of faults it is the
+earlier one. Prints the number, the refusal and the name of each sheet.
 
 Usage: python3 tests/stored_sheets.py
 """
@@ -49,7 +50,8 @@ def sheet(fonts=(), items=(), **changed):
     for i in items:
         slot = i["text"] if i["slot"] is None else i["slot"]
         pieces += i["gap"]
-        records += struct.pack("<hhIHH", i["x"], i["y"], i.get("slot_at", at + len(pieces)), i.get("slot_size", len(slot)), i.get("size", len(i["text"])))
+        records += struct.pack("<hhIHH", i["x"], i["y"], i.get("slot_at", at + len(pieces)), i.get("slot_size", len(slot)),
+                               i.get("size", len(i["text"])))
         records += bytes([i["font"], i["text_mode"], i["text_grey"], i["back_mode"], i["back_grey"], i["under_mode"], i["under_grey"],
                           i["strike_mode"], i["strike_grey"], i["alignment"], i["baseline"], i["kind"]]) + struct.pack("<HH", i["height"], i["zero"])
         pieces += slot
@@ -224,6 +226,7 @@ def accepted():
     store("font sizes at the limits", 0, sheet([font(cw=64, ch=64, s=64, atlas_width=1024)]))
     store("font sizes without a limit", 0, sheet([font(replacement=65535, baseline=255, strike=(255, 255), under=(255, 255))]))
     store("atlas of width 0 with bytes", 0, sheet([font(atlas=b"\x80\xFF\xC0")]))
+    store("atlas and mapping of 300 bytes", 0, sheet([font(atlas=b"\xC0" * 300, mapping=b"A" * 300)], [item(text=b"A")]))
     store("slot of 256, full", 0, sheet([font()], [item(text=b"z" * 256)]))
     store("slot of 256, empty", 0, sheet([font()], [item(slot=bytes(256))]))
     store("text with 00, 0A and 0D", 0, sheet([font()], [item(text=b"\0A\0\n\r\r\n\0", slot=b"\0A\0\n\r\r\n\0" + bytes(3))]))
@@ -256,8 +259,8 @@ def refused_2():
 def refused_3():
     for width, height in ((256, 256), (512, 128), (128, 512), (512, 1), (1, 512)):
         store(f"frame {width} by {height}", 0, sheet(width=width, height=height))
-    for width, height in ((0, 1), (1, 0), (0, 0), (513, 1), (1, 513), (512, 129), (129, 512), (257, 256), (256, 257), (512, 512), (65535, 1), (1, 65535),
-                          (256, 512), (65535, 65535), (0, 65535), (32768, 2), (1024, 64)):
+    for width, height in ((0, 1), (1, 0), (0, 0), (513, 1), (1, 513), (512, 129), (129, 512), (257, 256), (256, 257), (512, 512), (256, 512),
+                          (65535, 1), (1, 65535), (65535, 65535), (0, 65535), (32768, 2), (1024, 64)):
         store(f"frame {width} by {height}", 3, sheet(width=width, height=height))
 
 
@@ -272,10 +275,10 @@ def refused_4():
 
 
 def refused_5_records():
-    for at in (0, 23, 25, 24 + 65536, 0x18000000, 0xFFFFFFFF):
+    for at in (0, 23, 25, 24 + 65536, 24 + (1 << 24), 0x18000000, 0xFFFFFFFF):
         store(f"fonts at {at:X}", 5, sheet([font()], fonts_at=at))
     store("fonts at 0, no fonts", 5, sheet(fonts_at=0))
-    for at in (0, 24, 51, 53, 52 + 65536, 0xFFFFFFFF):
+    for at in (0, 24, 51, 53, 52 + 65536, 52 + (1 << 24), 0xFFFFFFFF):
         store(f"items at {at:X}", 5, sheet([font()], [item()], items_at=at))
     store("items at 52, no fonts", 5, sheet(items_at=52))
     store("one font past the end", 5, sheet(font_count=1, items_at=52))
@@ -329,13 +332,17 @@ def refused_5_sums():
     most = 0xFFFFFFFF
     store("atlas at FFFFFFFF", 5, sheet([sample(atlas_at=most)]))
     store("atlas right in its low two bytes", 5, sheet([sample(atlas_at=52 + 65536)]))
+    store("atlas right in its low three bytes", 5, sheet([sample(atlas_at=52 + (1 << 24))]))
     store("mapping at FFFFFFFF", 5, sheet([sample(mapping_at=most)]))
     store("mapping right in its low two bytes", 5, sheet([sample(mapping_at=54 + 65536)]))
+    store("mapping right in its low three bytes", 5, sheet([sample(mapping_at=54 + (1 << 24))]))
     store("slot at FFFFFFFF", 5, sheet([font()], [item(text=b"A", slot_at=most)]))
     store("slot right in its low two bytes", 5, sheet([font()], [item(text=b"A", slot_at=80 + 65536)]))
     store("slot right in its low three bytes", 5, sheet([font()], [item(text=b"A", slot_at=80 + (1 << 24))]))
     store("atlas of FFFFFFFF bytes", 5, sheet([sample(atlas_size=most)]))
     store("atlas length right in its low two bytes", 5, sheet([sample(atlas_size=2 + 65536)]))
+    store("atlas length right in its low three bytes", 5, sheet([sample(atlas_size=2 + (1 << 24))]))
+    store("mapping length right in its low byte", 5, sheet([sample(mapping_size=2 + 256)]))
     store("mapping of FFFF bytes", 5, sheet([sample(mapping_size=65535)]))
     store("slot of FFFF bytes", 5, sheet([font()], [item(text=b"A", slot_size=65535)]))
     # sums that come out right in 32 bits only
@@ -371,7 +378,8 @@ BAD = [
     # cut by the end
     "C2", "DF", "E0", "E0A0", "E282", "ED9F", "EF", "F0", "F090", "F09080", "F48FBF", "41C3",
     # cut by another byte
-    "C241", "C2C0", "C200", "E24182", "E28241", "E282C0", "E282E282AC", "F0419080", "F09041BF", "F0908041", "F09080C0", "F0C08080",
+    "C241", "C27F", "C2C0", "C200", "E0C080", "E17F80", "E0A07F", "ED7F80", "F1807F80", "F47F8080", "E24182",
+    "E28241", "E282C0", "E282E282AC", "F0419080", "F09041BF", "F0908041", "F09080C0", "F0C08080",
     # a continuation byte alone
     "80", "BF", "4180", "C28080", "E282AC82", "F090808080",
     # lead bytes that never appear
@@ -388,10 +396,12 @@ def refused_7_and_10():
     for code in BAD:
         store_mapping(code, 7, bytes.fromhex(code))
         store_text(code, 10, bytes.fromhex(code))
-    for code in ("00C08041", "0041C080", "0041C3", "00C3", "00EDA080EE8080", "00ED9FBFEDBFBF", "0061C1BF62", "00F0908080F4908080", "000080", "00006180"):
+    for code in ("00C08041", "0041C080", "0041C3", "00C3", "00EDA080EE8080", "00ED9FBFEDBFBF", "0061C1BF62", "00F0908080F4908080", "000080",
+                 "00006180"):
         store_mapping(code, 7, bytes.fromhex(code))
     store("mapping cut, the next atlas goes on", 7, sheet([font(mapping=b"\xE2\x82"), font(atlas=b"\xAC")]))
     store("mapping cut, the slot goes on", 7, sheet([font(mapping=b"\xC3")], [item(text=b"\xA9")]))
+    store("mapping ill-formed at its byte 299", 7, sheet([font(mapping=b"A" * 299 + b"\x80")]))
     store("second font's mapping ill-formed", 7, sheet([sample(), font(mapping=b"\x80")]))
     store("atlas that is ill-formed as a text", 0, sheet([font(atlas=b"\x80\xFF\xC0\x80")]))
     store("text cut, the next slot goes on", 10, sheet([font()], [item(text=b"\xC3"), item(text=b"\xA9")]))
@@ -494,8 +504,8 @@ def order_of_records():
 
 
 def main():
-    for fill in (accepted, refused_1, refused_2, refused_3, refused_4, refused_5_records, refused_5_pieces, refused_5_sums, refused_6, refused_7_and_10,
-                 refused_8, refused_9, order, order_of_records):
+    for fill in (accepted, refused_1, refused_2, refused_3, refused_4, refused_5_records, refused_5_pieces, refused_5_sums, refused_6,
+                 refused_7_and_10, refused_8, refused_9, order, order_of_records):
         fill()
     stdin, stdout = b"", ""
     for k, (name, refusal, b) in enumerate(SHEETS):
