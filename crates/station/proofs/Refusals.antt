@@ -175,8 +175,8 @@ module _ (b : List ℕ) (n w h : ℕ) (e : n ≡ check b) (z : n ≡ 0) (ew : w 
 
 -- ---- 12
 
-pub there-of : (n k count r : ℕ) → k ≡ count → r ≡ isThere n k 0 → r ≡ isThere n count 0
-there-of n k count r e q = rw (← e) q
+pub same-count : (n k count r : ℕ) → k ≡ count → r ≡ isThere n k 0 → r ≡ isThere n count 0
+same-count n k count r e q = rw (← e) q
 
 -- ---- 17
 

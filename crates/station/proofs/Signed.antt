@@ -1,7 +1,7 @@
 -- A coordinate as a signed number of 32 bits, and the replies made of two of them. Assumes nothing.
 use Prim.Native.Nat.{ℕ, suc, _-_, _^_, _<_}
 use native.Mathlib.Omega.{arith}
-use mathlib.Core.Path.{_≡_, _∙_}
+use mathlib.Core.Path.{_≡_, ap, _∙_}
 use mathlib.Core.Bool.{Bool, true, false, cond}
 use mathlib.Core.List.{List}
 use lib.Dec.{ltb}
@@ -13,11 +13,11 @@ use borrow.Author.Tests.{lt-ltb}
 use Rattle.geometry.specs.declared.Point.{Point}
 use Rattle.geometry.specs.declared.Rectangle.{Rectangle}
 use Rattle.geometry.specs.Layer.{origin}
-use Rattle.sheet.specs.Edits.{placeRefusal}
+use Rattle.sheet.specs.Edits.{newPlace, placeRefusal, refusal}
 use Rattle.edits.proofs.Signed.{read}
 use Rattle.station.specs.declared.Position.{Position}
 use Rattle.station.specs.declared.Box.{Box}
-use Rattle.station.specs.Calls.{signed, positionReply, boxReply}
+use Rattle.station.specs.Calls.{signed, positionReply, boxReply, editCode, onSheetCode}
 use Rattle.station.specs.Replies.{PointFits, CornerFits}
 
 by-sign : (x : ℕ) → x < 2 ^ 31 → (t : Bool) → SFits w32 (cond t (negsuc (origin - suc x)) (pos (x - origin)))
@@ -49,5 +49,15 @@ pub box-is : (a : Rectangle) (left top : ℤ) → CornerFits a → left ≡ sign
 unfolding boxReply
 box-is a left top f el et = rw (read-signed (a .left) (f .left) left el, read-signed (a .top) (f .top) top et)
 
+-- a new place, as the code reads it
+pub new-place-read : (i : ℕ) (x y : ℤ) → SFits w32 x → SFits w32 y → newPlace i (read x) (read y) ≡ newPlace i x y
+new-place-read i x y fx fy = rw (toZ-ofZ {z = x} fx, toZ-ofZ {z = y} fy)
+
 pub place-read : (b : List ℕ) (i r : ℕ) (x y : ℤ) → SFits w32 x → SFits w32 y → r ≡ placeRefusal b i (read x) (read y) → r ≡ placeRefusal b i x y
-place-read b i r x y fx fy q = q ∙ rw (toZ-ofZ {z = x} fx, toZ-ofZ {z = y} fy)
+place-read b i r x y fx fy q = q ∙ ap (refusal b) (new-place-read i x y fx fy)
+
+pub place-code-read : (b frame : List ℕ) (i n : ℕ) (x y : ℤ) → SFits w32 x → SFits w32 y → n ≡ editCode b frame (newPlace i (read x) (read y)) → n ≡ editCode b frame (newPlace i x y)
+place-code-read b frame i n x y fx fy q = q ∙ ap (editCode b frame) (new-place-read i x y fx fy)
+
+pub place-on-sheet-code-read : (b : List ℕ) (i n : ℕ) (x y : ℤ) → SFits w32 x → SFits w32 y → n ≡ onSheetCode b (newPlace i (read x) (read y)) → n ≡ onSheetCode b (newPlace i x y)
+place-on-sheet-code-read b i n x y fx fy q = q ∙ ap (onSheetCode b) (new-place-read i x y fx fy)

@@ -1,6 +1,6 @@
 -- The first refusal of two: the second is asked where the first is 0.
 use borrow.Author.Needs.{needs}
-use Rattle.station.proofs.Refusals.{drawItemCode-is, refused-first, refused-then, header-in, draw-accepted, there-of}
+use Rattle.station.proofs.Refusals.{drawItemCode-is, refused-first, refused-then, header-in, draw-accepted, same-count}
 use Rattle.station.proofs.codes.draw_item_code.Statement.{statement}
 use Rattle.station.proofs.codes.draw_item_code.Tie as tie
 
@@ -12,4 +12,4 @@ draw-item-code-spec =
     (λ c. rw drawItemCode-is (search refused-first))
     (λ c κs. search (header-in, draw-accepted))
     (λ c κs. search needs)
-    (λ c. rw drawItemCode-is (search (refused-then, there-of))))
+    (λ c. rw drawItemCode-is (search (refused-then, same-count))))
