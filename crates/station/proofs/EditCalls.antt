@@ -1,12 +1,11 @@
 -- The calls that edit: what a code of 0 gives to repainting, and what is left. Assumes nothing.
 use Prim.Native.Nat.{ℕ}
-use mathlib.Core.Path.{_≡_, sym, _∙_}
+use mathlib.Core.Path.{_≡_, sym, ap, _∙_}
 use mathlib.Core.List.{List}
 use lib.IntN.{ℤ}
 use lib.ListN.{length}
 use mir.Syntax.{w32}
 use mir.Val.{SFits}
-use mir.Facts.{toZ-ofZ}
 use Rattle.geometry.specs.declared.Rectangle.{Rectangle}
 use Rattle.geometry.specs.Canvas.{Canvas}
 use Rattle.characters.specs.Refusal.{unlessRefused}
@@ -23,6 +22,7 @@ use Rattle.drawing.proofs.Painting.{damage-canvas}
 use Rattle.station.specs.Calls.{editCode, onSheetCode}
 use Rattle.station.specs.Replies.{CornerFits}
 use Rattle.station.proofs.Refusals.{edit-framed, edit-allowed, on-sheet-allowed}
+use Rattle.station.proofs.Signed.{new-place-read, place-code-read, place-on-sheet-code-read}
 use Rattle.station.proofs.Calls.{kept, done}
 use Rattle.station.proofs.Bounds.{damage-fits}
 
@@ -54,28 +54,22 @@ on-sheet-damage-fits b n z e q b′ k a ea = damage-fits b b′ k a (on-sheet-al
 
 module _ (b : List ℕ) (i n : ℕ) (x y : ℤ) (fx : SFits w32 x) (fy : SFits w32 y) where
   module _ (frame : List ℕ) (q : n ≡ editCode b frame (newPlace i (read x) (read y))) where
-    pub place-code : n ≡ editCode b frame (newPlace i x y)
-    place-code = q ∙ rw (toZ-ofZ {z = x} fx, toZ-ofZ {z = y} fy)
-
     pub place-kept : {A : Type 0} (good before : A) → (n ≡ 0 → ⊥) → before ≡ unlessRefused (editCode b frame (newPlace i x y)) good before
-    place-kept = kept n _ place-code
+    place-kept = kept n _ (place-code-read b frame i n x y fx fy q)
 
     pub place-done : {A : Type 0} (r good before : A) → n ≡ 0 → r ≡ good → r ≡ unlessRefused (editCode b frame (newPlace i x y)) good before
-    place-done = done n _ place-code
+    place-done = done n _ (place-code-read b frame i n x y fx fy q)
 
   module _ (q : n ≡ onSheetCode b (newPlace i (read x) (read y))) where
-    pub place-on-sheet-code : n ≡ onSheetCode b (newPlace i x y)
-    place-on-sheet-code = q ∙ rw (toZ-ofZ {z = x} fx, toZ-ofZ {z = y} fy)
-
     pub place-on-sheet-kept : {A : Type 0} (good before : A) → (n ≡ 0 → ⊥) → before ≡ unlessRefused (onSheetCode b (newPlace i x y)) good before
-    place-on-sheet-kept = kept n _ place-on-sheet-code
+    place-on-sheet-kept = kept n _ (place-on-sheet-code-read b i n x y fx fy q)
 
     pub place-on-sheet-done : {A : Type 0} (r good before : A) → n ≡ 0 → r ≡ good → r ≡ unlessRefused (onSheetCode b (newPlace i x y)) good before
-    place-on-sheet-done = done n _ place-on-sheet-code
+    place-on-sheet-done = done n _ (place-on-sheet-code-read b i n x y fx fy q)
 
 module _ (b : List ℕ) (i : ℕ) (x y : ℤ) (fx : SFits w32 x) (fy : SFits w32 y) where
   same-put : putPlace b (itemAt b i) (biased (read x)) (biased (read y)) ≡ putPlace b (itemAt b i) (biased x) (biased y)
-  same-put = rw (toZ-ofZ {z = x} fx, toZ-ofZ {z = y} fy)
+  same-put = ap (edited b) (new-place-read i x y fx fy)
 
   pub place-sheet : (s : List ℕ) → s ≡ putPlace b (itemAt b i) (biased (read x)) (biased (read y)) → s ≡ putPlace b (itemAt b i) (biased x) (biased y)
   place-sheet s q = q ∙ same-put

@@ -3,7 +3,8 @@ use borrow.Author.Needs.{needs}
 use Rattle.station.specs.Calls.{editReply, editSheet, editFrame}
 use Rattle.station.proofs.Refusals.{edit-allowed}
 use Rattle.station.proofs.Calls.{box-refused, box-done}
-use Rattle.station.proofs.EditCalls.{edit-damage-fits, edited-accepted, edited-canvas, repainted-as, place-code, place-kept, place-done, place-sheet, place-area}
+use Rattle.station.proofs.EditCalls.{edit-damage-fits, edited-accepted, edited-canvas, repainted-as, place-kept, place-done, place-sheet, place-area}
+use Rattle.station.proofs.Signed.{place-code-read}
 use Rattle.station.proofs.station_set_place.Statement.{statement}
 use Rattle.station.proofs.station_set_place.Tie as tie
 
@@ -21,7 +22,7 @@ same-length-2 c = search needs
 
 returns : tie.Need-returns
 unfolding editReply editSheet editFrame
-returns c = (search (box-refused, place-code), (search place-kept, search place-kept))
+returns c = (search (box-refused, place-code-read), (search place-kept, search place-kept))
 
 place-damage-requires : tie.Need-place-damage-requires
 place-damage-requires c κs = search edit-allowed
@@ -43,7 +44,7 @@ same-length-4 c = search needs
 
 returns-2 : tie.Need-returns-2
 unfolding editReply editSheet editFrame
-returns-2 c = (search (box-done, place-code, place-area), (search (place-done, place-sheet), search (place-done, repainted-as, place-sheet, place-area)))
+returns-2 c = (search (box-done, place-code-read, place-area), (search (place-done, place-sheet), search (place-done, repainted-as, place-sheet, place-area)))
 
 pub station-set-place-spec : {M : Type 1} → statement M
 station-set-place-spec =

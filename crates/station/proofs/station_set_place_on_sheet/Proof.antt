@@ -3,7 +3,8 @@ use borrow.Author.Needs.{needs}
 use Rattle.station.specs.Calls.{onSheetReply, onSheetSheet}
 use Rattle.station.proofs.Refusals.{on-sheet-allowed}
 use Rattle.station.proofs.Calls.{box-refused, box-done}
-use Rattle.station.proofs.EditCalls.{on-sheet-damage-fits, place-on-sheet-code, place-on-sheet-kept, place-on-sheet-done, place-sheet, place-area}
+use Rattle.station.proofs.EditCalls.{on-sheet-damage-fits, place-on-sheet-kept, place-on-sheet-done, place-sheet, place-area}
+use Rattle.station.proofs.Signed.{place-on-sheet-code-read}
 use Rattle.station.proofs.station_set_place_on_sheet.Statement.{statement}
 use Rattle.station.proofs.station_set_place_on_sheet.Tie as tie
 
@@ -18,7 +19,7 @@ same-length c = search needs
 
 returns : tie.Need-returns
 unfolding onSheetReply onSheetSheet
-returns c = (search (box-refused, place-on-sheet-code), search place-on-sheet-kept)
+returns c = (search (box-refused, place-on-sheet-code-read), search place-on-sheet-kept)
 
 place-damage-requires : tie.Need-place-damage-requires
 place-damage-requires c κs = search on-sheet-allowed
@@ -34,7 +35,7 @@ same-length-2 c = search needs
 
 returns-2 : tie.Need-returns-2
 unfolding onSheetReply onSheetSheet
-returns-2 c = (search (box-done, place-on-sheet-code, place-area), search (place-on-sheet-done, place-sheet))
+returns-2 c = (search (box-done, place-on-sheet-code-read, place-area), search (place-on-sheet-done, place-sheet))
 
 pub station-set-place-on-sheet-spec : {M : Type 1} → statement M
 station-set-place-on-sheet-spec =
