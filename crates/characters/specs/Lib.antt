@@ -1,2 +1,3 @@
 pub mod Refusal
 pub mod Utf8
+pub mod Ascii

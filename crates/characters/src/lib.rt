@@ -2,6 +2,7 @@ ghost use mathlib.Core.Path.{_≡_};
 ghost use lib.ListN.{length};
 ghost use Rattle.characters.specs.Refusal.{need};
 ghost use Rattle.characters.specs.Utf8.{leadingOnes, isContinuation, isSurrogate, scalar, two, three, four, stepAt, chars, wellFormed};
+ghost use Rattle.characters.specs.Ascii.{AsciiHead};
 
 pub mod walker;
 
@@ -122,11 +123,27 @@ pub fn next(s: &[u8], c: Cursor) -> Step
     Step::IllFormed
 }
 
+// How many bytes below 80 lead the text: each is a character.
+fn ascii_length(s: &[u8]) -> usize
+    ensures { λ r. ⌜ AsciiHead (now (s .entry)) r ⌝ }
+{
+    let mut at = 0;
+    while at < s.len() {
+        if 0x80 <= s[at] {
+            return at;
+        }
+        at += 1;
+    }
+    at
+}
+
 // 0 for a well-formed text, else the refusal.
 pub fn walk(s: &[u8], refusal: u32) -> u32
     ensures { λ r. ⌜ r ≡ need (wellFormed (now (s .entry))) refusal 0 ⌝ }
 {
-    let mut c = Cursor { at: 0 };
+    let mut c = Cursor {
+        at: ascii_length(s),
+    };
     while c.at < s.len() {
         let Step::Character(_, after) = next(s, c) else {
             return refusal;
@@ -140,8 +157,8 @@ pub fn walk(s: &[u8], refusal: u32) -> u32
 pub fn count(s: &[u8]) -> usize
     ensures { λ r. ⌜ r ≡ length (chars (now (s .entry))) ⌝ }
 {
-    let mut c = Cursor { at: 0 };
-    let mut n: usize = 0;
+    let mut n = ascii_length(s);
+    let mut c = Cursor { at: n };
     loop {
         let Step::Character(_, after) = next(s, c) else {
             return n;

@@ -9,10 +9,13 @@ use Rattle.characters.proofs.count.Statement.{statement}
 use Rattle.characters.proofs.count.Tie as tie
 
 abbrev Inv-loop : tie.InvT-loop
-Inv-loop s c₀ n₀ c n = (n ≤ c .at) × (c .at ≤ length s) × (n + length (charsFrom s (c .at)) ≡ length (charsFrom s 0))
+Inv-loop s n₀ c₀ n c = (n ≤ c .at) × (c .at ≤ length s) × (n + length (charsFrom s (c .at)) ≡ length (charsFrom s 0))
 
 abbrev μ-loop : tie.MeasureT-loop
-μ-loop s c₀ n₀ c n = length s - c .at
+μ-loop s n₀ c₀ n c = length s - c .at
+
+ascii-length-requires : tie.Need-ascii-length-requires Inv-loop μ-loop
+ascii-length-requires c κs = search needs
 
 loop-holds : tie.Need-loop-holds Inv-loop μ-loop
 loop-holds c = search needs
@@ -41,6 +44,7 @@ count-spec =
     (tie.spec
     Inv-loop
     μ-loop
+    ascii-length-requires
     loop-holds
     next-requires
     enum-known-after

@@ -14,6 +14,9 @@ Inv-loop s refusal c₀ c = (c .at ≤ length s) × (wellFormedFrom s (c .at) �
 abbrev μ-loop : tie.MeasureT-loop
 μ-loop s refusal c₀ c = length s - c .at
 
+ascii-length-requires : tie.Need-ascii-length-requires Inv-loop μ-loop
+ascii-length-requires c κs = search needs
+
 loop-holds : tie.Need-loop-holds Inv-loop μ-loop
 loop-holds c = search needs
 
@@ -41,6 +44,7 @@ walk-spec =
     (tie.spec
     Inv-loop
     μ-loop
+    ascii-length-requires
     loop-holds
     next-requires
     enum-known-after
