@@ -4,8 +4,9 @@
 //!     compare faults [seed N] [cases N]                 that each known mistake is found
 //!
 //! NAME is who is tested: `library` (libstation.a, if it was there when this was built), `plain`
-//! (document 01's formulas, without the crate) or `pixels` (the crate on a frame that paints pixel
-//! by pixel). Exit status 0: no difference; 1: a difference, printed with a small input.
+//! (document 01's formulas, without the crate), `pixels` (the crate on a frame that paints pixel by
+//! pixel) or a mistake of `faulty.rs`. Exit status 0: no difference; 1: a difference, printed with
+//! a small input.
 
 #[cfg(library)]
 mod host;
@@ -246,7 +247,12 @@ fn tested(name: &str) -> Box<dyn Station> {
         "pixels" => Box::new(Calls(Crate { rows: false })),
         #[cfg(library)]
         "library" => Box::new(host::Library),
-        _ => panic!("'{name}' is not known, or the library was not there when this was built"),
+        _ => {
+            let fault = FAULTS.iter().find(|fault| format!("{fault:?}") == name);
+            Box::new(Faulty(*fault.unwrap_or_else(|| {
+                panic!("{name} is not known, or was not there when this was built")
+            })))
+        }
     }
 }
 
