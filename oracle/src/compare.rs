@@ -1,7 +1,12 @@
 //! Compares every call of the linked library with the oracle:
 //!
-//!     compare [seed N] [cases N] [from N] [with NAME]   every pixel, position, box, index and byte
-//!     compare faults [seed N] [cases N]                 that each known mistake is found
+//!     compare [seed N] [cases N] [from N] [sweeps no] [with NAME]
+//!                 every reply, and every byte of sheet, frame and output
+//!     compare faults [seed N] [cases N]
+//!                 that each known mistake is found
+//!
+//! Beside random cases it sweeps over sequences, characters, mappings and the bytes of small sheets;
+//! `sweeps no` leaves these out, as for a run under valgrind.
 //!
 //! NAME is who is tested: `library` (libstation.a, if it was there when this was built), `plain`
 //! (document 01's formulas, without the crate), `pixels` (the crate on a frame that paints pixel by
@@ -89,7 +94,7 @@ impl Comparison<'_> {
     }
 
     fn sweeps(&mut self) -> Result<(), (Case, Difference)> {
-        for case in sweeps::byte_cases() {
+        for case in sweeps::all_cases() {
             if let Err(difference) = self.case(&case) {
                 return Err((case, difference));
             }
@@ -173,22 +178,26 @@ fn compare_all(words: &Words, name: &str, tested: &dyn Station) -> bool {
     let (from, count) = (words.number("from", 0), words.number("cases", 20_000));
     println!("compare seed {seed} from {from} cases {count} with {name}");
     let start = Instant::now();
-    let mut good = marked(tested) && walks(tested);
+    let sweeps = words.after("sweeps") != Some("no");
+    let mut good = marked(tested);
+    if sweeps {
+        good &= walks(tested);
+    }
     let mut comparison = Comparison {
         tested,
         buffers: Buffers::default(),
         tally: Tally::default(),
     };
     let mut differences = 0;
-    if let Err((case, difference)) = comparison.sweeps() {
-        println!("in the sweep over bytes:");
-        comparison.print(&case, &difference);
-        differences += 1;
+    if sweeps {
+        if let Err((case, difference)) = comparison.sweeps() {
+            println!("in the sweeps:");
+            comparison.print(&case, &difference);
+            differences += 1;
+        }
+        let answers = comparison.tally.answers;
+        println!("sweeps over bytes of small sheets, mappings and extremes: {answers} answers");
     }
-    println!(
-        "bytes of small sheets set one by one: {} answers",
-        comparison.tally.answers
-    );
     for number in from..from + count {
         if let Err((case, difference)) = comparison.number(seed, number) {
             println!("in case {number}:");

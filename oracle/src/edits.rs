@@ -28,6 +28,15 @@ impl Rect {
         self.top + self.height as i32
     }
 
+    /// Whether both cover a pixel.
+    pub fn meets(&self, other: &Self) -> bool {
+        let (right, bottom) = (self.right(), self.bottom());
+        self.left < other.right()
+            && other.left < right
+            && self.top < other.bottom()
+            && other.top < bottom
+    }
+
     fn between(left: i32, top: i32, right: i32, bottom: i32) -> Option<Self> {
         (left < right && top < bottom).then(|| Self {
             left,

@@ -49,6 +49,7 @@ faults! {
     TextBeforeSlotTail,
     LimitOneLess,
     SumsIn32Bits,
+    OwnRefusalsFalling,
     FrameTouchedWhenRefused,
     PlaceCutTo16Bits,
     UnusedGreysCleared,
@@ -199,8 +200,18 @@ impl Faulty {
             }
             other => other,
         };
-        let area = GOOD.edit_on_sheet(sheet, item, edit);
+        let mut area = GOOD.edit_on_sheet(sheet, item, edit);
         if area.code != 0 {
+            let ill_formed = |text: &[u8]| std::str::from_utf8(text).is_err();
+            let later = [
+                (14, matches!(edit, Edit::Text(text) if ill_formed(text))),
+                (
+                    15,
+                    matches!(edit, Edit::Place(x, _) if x as i16 as i32 != x),
+                ),
+                (16, matches!(edit, Edit::Style(style) if style.len() != 8)),
+            ];
+            area.code = self.falling(area.code, &later);
             return area;
         }
         let record = Item::read(&before, item as usize);
@@ -218,6 +229,15 @@ impl Faulty {
             _ => {}
         }
         self.rectangle(&before, sheet, item as usize, area)
+    }
+
+    // A later condition of the call that holds too.
+    fn falling(&self, code: u32, later: &[(u32, bool)]) -> u32 {
+        let holds = |(other, holds): &&(u32, bool)| *holds && *other > code;
+        match later.iter().rev().find(holds) {
+            Some((other, _)) if self.0 == Fault::OwnRefusalsFalling && code > 10 => *other,
+            _ => code,
+        }
     }
 
     // Sheets that a mistaken check sees: mended where the mistake does not look.
@@ -329,7 +349,9 @@ impl Station for Faulty {
     }
 
     fn draw_whitespace(&self, sheet: &[u8], frame: &mut [u8], item: u32, width: u32) -> Position {
-        GOOD.draw_whitespace(sheet, frame, item, width)
+        let mut next = GOOD.draw_whitespace(sheet, frame, item, width);
+        next.code = self.falling(next.code, &[(18, width > 65_535)]);
+        next
     }
 
     fn draw(&self, sheet: &[u8], frame: &mut [u8]) -> u32 {
@@ -368,7 +390,8 @@ impl Station for Faulty {
     }
 
     fn write_page(&self, sheet: &[u8], frame: &[u8], output: &mut [u8]) -> Number {
-        let page = GOOD.write_page(sheet, frame, output);
+        let mut page = GOOD.write_page(sheet, frame, output);
+        page.code = self.falling(page.code, &[(17, output.is_empty())]);
         if self.0 == Fault::OutputClearedPastThePage && page.code == 0 {
             output[page.value as usize..].fill(0);
         }

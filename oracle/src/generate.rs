@@ -92,8 +92,28 @@ fn atlas(random: &mut Random, scale: Scale, cw: u16, ch: usize) -> (Vec<u8>, u16
     (random.bytes(length), width)
 }
 
+/// A font whose every measure is the largest.
+fn largest_font(random: &mut Random) -> FontModel {
+    FontModel {
+        atlas: random.bytes(2 * 64 * 8),
+        atlas_width: 64,
+        mapping: b"AB".to_vec(),
+        replacement: 1,
+        character_width: 64,
+        character_height: 64,
+        spacing: 64,
+        baseline: 255,
+        strikethrough: [255, 255],
+        underline: [255, 255],
+        zero: 0,
+    }
+}
+
 /// A random font.
 pub fn font(random: &mut Random, scale: Scale) -> FontModel {
+    if scale == Scale::Full && random.once_in(30) {
+        return largest_font(random);
+    }
     let character_width = side(random, scale);
     let character_height = side(random, scale);
     let (atlas, atlas_width) = atlas(
@@ -138,6 +158,10 @@ pub fn text(random: &mut Random, mapping: &[u8], most: usize) -> Vec<u8> {
         18 => random.between(21, 256) as usize,
         _ => 256,
     };
+    // The most lines and the widest line.
+    if random.once_in(60) {
+        return vec![random.pick(b"\n\rA"); wanted.min(most)];
+    }
     let mut text = Vec::new();
     for _ in 0..wanted {
         let mut next = Vec::new();

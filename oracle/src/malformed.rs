@@ -26,11 +26,13 @@ const ILL_FORMED: [&[u8]; 16] = [
 ];
 
 /// Mappings that spell more than 65,536.
-const TOO_MANY: [&str; 4] = [
+const TOO_MANY: [&str; 6] = [
     "\0\u{10000}\u{20000}",
     "\0\0\u{10ffff}",
     "A\0\0\u{107ff}",
     "\0\u{100000}\u{10ffff}\0\u{61}\u{61}",
+    "\0\0\u{7fff}\0\0\u{7fff}A",
+    "A\0\u{10000}\u{1fffe}A",
 ];
 
 fn ill_formed(random: &mut Random, bytes: &[u8]) -> Vec<u8> {
@@ -70,20 +72,29 @@ fn damage_item(random: &mut Random, item: &mut ItemModel) {
         9 => item.font = random.pick(&[item.font.wrapping_add(4), 4, 255]),
         10 => item.text_length = (item.slot.len() + 1 + random.below(4)) as u16,
         11 => item.slot.resize(random.pick(&[257, 258, 300, 513]), 0),
-        12 => {
-            let mut tail = vec![0; random.below(4)];
-            tail.push(random.pick(&[1, 0x41, 0xff]));
-            tail.resize(tail.len() + random.below(3), 0);
-            item.slot.extend_from_slice(&tail);
+        12 => push_tail(random, item),
+        13 => {
+            set_ill_formed(random, item);
+            push_tail(random, item);
         }
-        _ => {
-            let length = usize::from(item.text_length).min(item.slot.len());
-            let mut text = ill_formed(random, &item.slot[..length]);
-            let tail = random.below(3);
-            text.truncate(256 - tail);
-            item.set_text(&text, tail);
-        }
+        _ => set_ill_formed(random, item),
     }
+}
+
+// Slot bytes past the text, one of them not 00.
+fn push_tail(random: &mut Random, item: &mut ItemModel) {
+    let mut tail = vec![0; random.below(4)];
+    tail.push(random.pick(&[1, 0x41, 0xff]));
+    tail.resize(tail.len() + random.below(3), 0);
+    item.slot.extend_from_slice(&tail);
+}
+
+fn set_ill_formed(random: &mut Random, item: &mut ItemModel) {
+    let length = usize::from(item.text_length).min(item.slot.len());
+    let mut text = ill_formed(random, &item.slot[..length]);
+    let tail = random.below(3);
+    text.truncate(256 - tail);
+    item.set_text(&text, tail);
 }
 
 fn set_field(sheet: &mut [u8], at: usize, length: usize, value: u32) {

@@ -76,13 +76,15 @@ fn push_piece(random: &mut Random, mapping: &mut Vec<u8>) {
     }
 }
 
-/// Mappings that spell 65,536 characters, the most.
-const LARGEST: [&str; 5] = [
+/// Mappings that spell 65,536 characters, the most, some of them twice.
+pub const LARGEST: [&str; 7] = [
     "\0\u{10000}\u{1ffff}",
     "\0\0\u{107ff}",
     "\0\u{d000}\u{d7ff}\0\u{e000}\u{1d7ff}",
     "\0\u{100000}\u{10ffff}",
     "\0\u{400}\u{d7ff}\0\u{20000}\u{22bff}",
+    "\0\0\u{7fff}\0\0\u{7fff}",
+    "A\0\u{10ffff}\u{10000}\0\u{10000}\u{1fffd}BA",
 ];
 
 /// A random mapping that is accepted.
@@ -93,8 +95,9 @@ pub fn mapping(random: &mut Random) -> Vec<u8> {
         2..=6 => "\0\u{20}\u{7f}".into(),
         7..=11 => b"ABCDEFGHIJKLMNOP"[..random.between(1, 16) as usize].into(),
         _ => {
+            let pieces = if random.once_in(40) { 900 } else { 6 };
             let mut mapping = Vec::new();
-            for _ in 0..random.between(1, 6) {
+            for _ in 0..random.between(1, pieces) {
                 push_piece(random, &mut mapping);
             }
             mapping

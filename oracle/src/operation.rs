@@ -214,14 +214,16 @@ fn whitespace(random: &mut Random) -> u32 {
 // Texts that fit the slot, fill it, pass it, or are ill-formed.
 fn new_text(random: &mut Random, sheet: &SheetModel, item: u32) -> Vec<u8> {
     let Some(item) = sheet.items.get(item as usize) else {
-        return b"A".to_vec();
+        return random
+            .pick(&[b"A" as &[u8], b"\xff", &[b'A'; 300]])
+            .to_vec();
     };
     let size = item.slot.len();
     let mapping = &sheet.fonts[item.font as usize].mapping;
     let mut text = generate::text(random, mapping, size);
     match random.below(10) {
         0 => text.resize(size, b'A'),
-        1 => text.resize(size + 1 + random.below(3), b'A'),
+        1 => text.resize(size + 1 + random.below(3), random.pick(&[b'A', 0xff])),
         2 if size > 0 => {
             if text.is_empty() {
                 text.push(b'A');

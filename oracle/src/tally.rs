@@ -1,10 +1,13 @@
 //! What a comparison has met: answers by call and code, and the kinds of items, fonts and texts of
 //! the accepted sheets, so that a reader sees what was tried.
 
+use crate::calls::Painter;
 use crate::characters::decode_all;
 use crate::comparison::Watch;
+use crate::edits::Rect;
 use crate::model::{FontModel, ItemModel, SheetModel};
 use crate::operation::{Call, Operation, Reply};
+use crate::plain::Plain;
 use std::collections::BTreeMap;
 use std::fmt;
 
@@ -15,6 +18,7 @@ pub struct Tally {
     pub answers: u64,
     codes: BTreeMap<String, BTreeMap<u32, u64>>,
     kinds: BTreeMap<String, u64>,
+    ranges: BTreeMap<&'static str, (i32, i32)>,
 }
 
 impl Watch for Tally {
@@ -33,11 +37,22 @@ impl Watch for Tally {
         if changed > 0 {
             self.count(format!("changed pixels: {name}"));
         }
-        if let Reply::Area(area) = reply {
-            let empty = area.code == 0 && area.width == 0;
-            if empty && name.starts_with("Set") {
-                self.count("empty damage rectangles");
+        match reply {
+            Reply::Area(area) if name.starts_with("Set") => {
+                let empty = area.code == 0 && area.width == 0;
+                self.count_if(empty, "empty damage rectangles");
             }
+            Reply::Area(area) => {
+                self.range("box left", area.left);
+                self.range("box top", area.top);
+                self.range("box width", area.width as i32);
+                self.range("box height", area.height as i32);
+            }
+            Reply::Position(next) => {
+                self.range("next x", next.x);
+                self.range("next y", next.y);
+            }
+            _ => {}
         }
     }
 }
@@ -45,6 +60,11 @@ impl Watch for Tally {
 impl Tally {
     fn add(&mut self, kind: impl Into<String>, number: u64) {
         *self.kinds.entry(kind.into()).or_default() += number;
+    }
+
+    fn range(&mut self, name: &'static str, number: i32) {
+        let range = self.ranges.entry(name).or_default();
+        *range = (range.0.min(number), range.1.max(number));
     }
 
     /// Counts one of a kind.
@@ -65,6 +85,11 @@ impl Tally {
         self.count_if(sheet.items.len() == 64, "sheets of 64 items");
         self.count_if(sheet.fonts.len() == 4, "sheets of 4 fonts");
         self.count_if(sheet.area() >= 60_000, "frames of 60,000 greys and more");
+        let bytes = sheet.encode();
+        let boxes = (0..sheet.items.len().min(8)).filter_map(|item| Plain.ink_box(&bytes, item));
+        let boxes: Vec<Rect> = boxes.collect();
+        let meet = |a: &Rect| boxes.iter().filter(|b| a.meets(b)).count() > 1;
+        self.count_if(boxes.iter().any(meet), "sheets with overlapping items");
         for font in &sheet.fonts {
             self.font(font);
         }
@@ -160,6 +185,9 @@ impl fmt::Display for Tally {
         writeln!(f, "what was met:")?;
         for (kind, number) in &self.kinds {
             writeln!(f, "  {kind:<42} {number}")?;
+        }
+        for (name, (least, most)) in &self.ranges {
+            writeln!(f, "  {name:<42} {least} to {most}")?;
         }
         Ok(())
     }
