@@ -175,7 +175,7 @@ fn walks(tested: &dyn Station) -> bool {
 
 fn compare_all(words: &Words, name: &str, tested: &dyn Station) -> bool {
     let seed = words.number("seed", 1);
-    let (from, count) = (words.number("from", 0), words.number("cases", 20_000));
+    let (from, count) = (words.number("from", 0), words.number("cases", 50_000));
     println!("compare seed {seed} from {from} cases {count} with {name}");
     let start = Instant::now();
     let sweeps = words.after("sweeps") != Some("no");

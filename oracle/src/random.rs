@@ -25,7 +25,7 @@ impl Random {
 
     /// A number from 0 up to, and not, `end`.
     pub fn below(&mut self, end: usize) -> usize {
-        (u64::from(self.number()) * end as u64 >> 32) as usize
+        ((u64::from(self.number()) * end as u64) >> 32) as usize
     }
 
     /// A number from `first` to `last`.

@@ -141,12 +141,12 @@ fn extreme_cases() -> impl Iterator<Item = Case> {
         let text = &texts[number / 144 % 6];
         let modes = (number / 12 % 12) as u8;
         let place = |far: bool| if far { i16::MIN } else { i16::MAX };
-        let mut item = sample_item(text, [modes & 1, 9, modes / 2 & 1, 5, modes / 4, 7, 2, 3]);
+        let mut item = sample_item(text, [modes & 1, 9, (modes / 2) & 1, 5, modes / 4, 7, 2, 3]);
         item.alignment = (number % 3) as u8;
         item.baseline = (number / 3 % 4) as u8;
         (item.height_kind, item.height_value) = (0, 1_000);
-        item.x = place(number / 864 & 1 == 1);
-        item.y = place(number / 864 & 2 == 2);
+        item.x = place((number / 864) & 1 == 1);
+        item.y = place((number / 864) & 2 == 2);
         let (x, y) = (i32::from(!item.x), i32::from(!item.y));
         let model = SheetModel {
             width: 512,
