@@ -7,7 +7,7 @@ use crate::mappings::LARGEST;
 use crate::marked::{sample_font, sample_item};
 use crate::model::{FontModel, SheetModel};
 use crate::operation::{Call, Operation};
-use crate::reply::Station;
+use crate::reply::{Station, Step};
 
 /// Small sheets whose bytes are set one by one.
 fn small_sheets() -> Vec<SheetModel> {
@@ -195,6 +195,26 @@ const EDGES: [u8; 12] = [
     0x00, 0x41, 0x7f, 0x80, 0x8f, 0x90, 0x9f, 0xa0, 0xbf, 0xc0, 0xc2, 0xff,
 ];
 
+/// The step from the start of a line as Rust's own `str` has it.
+fn first_step(line: &[u8]) -> Step {
+    let parts = (1..=line.len()).map(|length| &line[..length]);
+    let first = parts
+        .filter_map(|part| std::str::from_utf8(part).ok())
+        .next();
+    match first.and_then(|part| part.chars().next()) {
+        Some(character) => Step {
+            code: 0,
+            ended: 0,
+            character: character as u32,
+            next: character.len_utf8(),
+        },
+        None => Step {
+            code: 10,
+            ..Step::default()
+        },
+    }
+}
+
 /// Walks from every lead byte with every second byte and the edges after it, cut after each byte;
 /// how many steps agreed, or the first line that did not.
 pub fn walks(oracle: &dyn Station, tested: &dyn Station) -> Result<u64, Vec<u8>> {
@@ -215,7 +235,8 @@ pub fn walks(oracle: &dyn Station, tested: &dyn Station) -> Result<u64, Vec<u8>>
                     for length in first..=4 {
                         let line = &line[..length];
                         buffer.hold(line, true);
-                        if oracle.walk(line, 0) != tested.walk(buffer.slice(), 0) {
+                        let step = oracle.walk(line, 0);
+                        if step != tested.walk(buffer.slice(), 0) || step != first_step(line) {
                             return Err(line.to_vec());
                         }
                         steps += 1;
