@@ -1,1 +1,5 @@
 pub mod Glyphs
+pub mod Corners
+pub mod Bits
+pub mod Images
+pub mod Shown

@@ -1,7 +1,216 @@
+use geometry::ORIGIN;
+use geometry::OptionalGrey;
+use geometry::Rectangle;
 use geometry::Size;
+ghost use mathlib.Core.Path.{_≡_};
+ghost use Prim.Native.Nat.{_+_, _≤_, _<_};
+ghost use lib.ListN.{length};
+ghost use Rattle.geometry.specs.Layer.{origin, mapIndexed, within, paint, paintIn};
+ghost use Rattle.geometry.specs.Canvas.{Canvas, onFrame};
+ghost use Rattle.atlas.specs.Atlas.{image, glyph};
+ghost use Rattle.atlas.specs.Row.{glyphCorner, blend, imageRow, bitsAt, bitRow, SubImage};
 
 // An atlas of glyphs: embedded-graphics' `ImageRaw` of one bit a pixel, and the size of a glyph's cell in it.
 pub struct Atlas {
     pub width: u32,
     pub cell_size: Size,
+}
+
+// Where a glyph's cell stands in its atlas.
+enum Corner {
+    // its first column and row
+    At(usize, usize),
+    // nowhere: the glyph is not drawn
+    Missing,
+}
+
+// Where the glyph with an index stands in an atlas of n bytes.
+fn glyph_corner(n: usize, atlas: Atlas, index: u32) -> Corner
+    ensures { λ r. ⌜ r ≡ glyphCorner atlas n index ⌝ }
+{
+    let cell = atlas.cell_size;
+    let width = cell.width;
+    let height = cell.height as usize;
+    let atlas_width = atlas.width;
+    if width < 1 {
+        return Corner::Missing;
+    }
+    if height < 1 {
+        return Corner::Missing;
+    }
+    if atlas_width < width {
+        return Corner::Missing;
+    }
+    let per_row = atlas_width / width;
+    let column = index % per_row * width;
+    let row = ((index / per_row) as usize) * height;
+    let stride = (atlas_width as usize + 7) / 8;
+    if n / stride < row + height {
+        return Corner::Missing;
+    }
+    Corner::At(column as usize, row)
+}
+
+fn wide(byte: u8) -> u32
+    ensures { λ r. ⌜ (r ≡ byte) × (r < 256) ⌝ }
+{
+    byte as u32
+}
+
+// The pixels from x on of the atlas's row y, as bits 7 to 0 of a number.
+fn bits_at(bytes: &[u8], stride: usize, x: usize, y: usize) -> u32
+    requires { ⌜ SubImage stride x y 1 1 (length (now bytes)) ⌝ }
+    ensures { λ r. ⌜ r ≡ bitsAt (now (bytes .entry)) stride x y ⌝ }
+{
+    let at = x / 8;
+    let first = y * stride + at;
+    let shift = 8 - x % 8;
+    let high = wide(bytes[first]) * 256;
+    if at + 1 < stride {
+        let low = wide(bytes[first + 1]);
+        return (high + low) >> shift;
+    }
+    high >> shift
+}
+
+// What a pixel becomes: the text's grey where the atlas's pixel is on and the background's where it is off, if set.
+fn blend(on: bool, text: OptionalGrey, background: OptionalGrey, grey: u8) -> u8
+    ensures { λ r. ⌜ r ≡ blend on text background grey ⌝ }
+{
+    if on {
+        match text {
+            OptionalGrey::Unset => grey,
+            OptionalGrey::Set(g) => g,
+        }
+    } else {
+        match background {
+            OptionalGrey::Unset => grey,
+            OptionalGrey::Set(g) => g,
+        }
+    }
+}
+
+// Draws at most eight pixels, from the bits 7 to 0 of a number.
+fn draw_bits(row: &mut [u8], bits: u32, text: OptionalGrey, background: OptionalGrey)
+    requires { ⌜ length (now row) ≤ 8 ⌝ }
+    ensures { λ _. ⌜ now (row .exit) ≡ mapIndexed (bitRow bits text background) 0 (now (row .entry)) ⌝ }
+{
+    let mut i = 0;
+    while i < row.len() {
+        let on = (bits >> (7 - i)) % 2 == 1;
+        row[i] = blend(on, text, background, row[i]);
+        i += 1;
+    }
+}
+
+// Draws a row of pixels, eight at a time, from the atlas's pixel (x, y) on.
+fn draw_row(
+    row: &mut [u8],
+    bytes: &[u8],
+    stride: usize,
+    x: usize,
+    y: usize,
+    text: OptionalGrey,
+    background: OptionalGrey,
+)
+    requires { ⌜ SubImage stride x y (length (now row)) 1 (length (now bytes)) ⌝ }
+    ensures { λ _. ⌜ now (row .exit) ≡ mapIndexed (imageRow (now (bytes .entry)) stride y text background) x (now (row .entry)) ⌝ }
+{
+    let mut i = 0;
+    while 8 <= row.len() - i {
+        let e = i + 8;
+        let bits = bits_at(bytes, stride, x + i, y);
+        draw_bits(&mut row[i..e], bits, text, background);
+        i = e;
+    }
+    let n = row.len();
+    if i < n {
+        let bits = bits_at(bytes, stride, x + i, y);
+        draw_bits(&mut row[i..n], bits, text, background);
+    }
+}
+
+// Draws the atlas from its pixel (x, y) on in a rectangle of the frame, whose columns and rows are counted from the frame's
+// corner.
+fn draw_sub_image(
+    frame: &mut [u8],
+    fw: usize,
+    fh: usize,
+    left: usize,
+    top: usize,
+    width: usize,
+    height: usize,
+    bytes: &[u8],
+    stride: usize,
+    x: usize,
+    y: usize,
+    text: OptionalGrey,
+    background: OptionalGrey,
+)
+    requires { ⌜ Canvas fw fh (length (now frame)) (onFrame left top width height) ⌝ }
+    requires { ⌜ SubImage stride x y width height (length (now bytes)) ⌝ }
+    ensures { λ _. ⌜ now (frame .exit) ≡ paint fw (within (onFrame left top width height) (image (now (bytes .entry)) stride x y (origin + left) (origin + top) text background)) (now (frame .entry)) ⌝ }
+{
+    let mut k: usize = 0;
+    while k < height {
+        let a = (top + k) * fw + left;
+        let b = a + width;
+        draw_row(&mut frame[a..b], bytes, stride, x, y + k, text, background);
+        k += 1;
+    }
+}
+
+// Draws the glyph with an index, its cell's corner at (left, top), where the clip shows it.
+pub fn draw_glyph(
+    frame: &mut [u8],
+    fw: usize,
+    fh: usize,
+    clip: Rectangle,
+    bytes: &[u8],
+    atlas: Atlas,
+    text: OptionalGrey,
+    background: OptionalGrey,
+    index: u32,
+    left: u32,
+    top: u32,
+)
+    requires { ⌜ Canvas fw fh (length (now frame)) clip ⌝ }
+    ensures { λ _. ⌜ now (frame .exit) ≡ paintIn fw clip (glyph (now (bytes .entry)) atlas text background index left top) (now (frame .entry)) ⌝ }
+{
+    let cell = atlas.cell_size;
+    let area = Rectangle {
+        left,
+        top,
+        width: cell.width,
+        height: cell.height,
+    };
+    let shown = clip.intersection(area);
+    if shown.is_empty() {
+        return;
+    }
+    let Corner::At(column, row) = glyph_corner(bytes.len(), atlas, index) else {
+        return;
+    };
+    let stride = (atlas.width as usize + 7) / 8;
+    let x = column + (shown.left - left) as usize;
+    let y = row + (shown.top - top) as usize;
+    let l = (shown.left - ORIGIN) as usize;
+    let t = (shown.top - ORIGIN) as usize;
+    let w = shown.width as usize;
+    let h = shown.height as usize;
+    draw_sub_image(
+        frame,
+        fw,
+        fh,
+        l,
+        t,
+        w,
+        h,
+        bytes,
+        stride,
+        x,
+        y,
+        text,
+        background,
+    );
 }

@@ -1,11 +1,9 @@
 -- `next`: a law for each way out, where n is the count of the lead byte's ones. Assumes nothing.
-use mathlib.Core.Path.{_≡_, refl}
-use mathlib.Core.Bool.{Bool, true, false, cond}
+use mathlib.Core.Path.{_≡_}
 use mathlib.Core.List.{List}
 use Prim.Native.Nat.{ℕ, _+_, _-_, _<_, _≤_}
 use borrow.Author.Tests.{lt-ltb, le-ltb, ne-eqb}
 use lib.ListN.{length, getD}
-use lib.Dec.{ltb}
 use Rattle.characters.specs.declared.Step.{Step}
 use Rattle.characters.specs.declared.Step.the-variants.{Character, IllFormed, End}
 use Rattle.characters.specs.Utf8.{leadingOnes, two, three, four, sequence, stepAt}

@@ -3,6 +3,8 @@ ghost use lib.ListN.{length};
 ghost use Rattle.characters.specs.Refusal.{need};
 ghost use Rattle.characters.specs.Utf8.{leadingOnes, isContinuation, isSurrogate, scalar, two, three, four, stepAt, chars, wellFormed};
 
+pub mod walker;
+
 // A position in a text: the offset of its next byte.
 pub struct Cursor {
     pub at: usize,

@@ -1,3 +1,7 @@
 pub mod Exact
-pub mod Damage
-pub mod Repaint
+pub mod DamageHolds
+pub mod Repainting
+pub mod Painting
+pub mod Readings
+pub mod EditedInk
+pub mod Changes

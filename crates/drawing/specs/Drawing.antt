@@ -70,13 +70,17 @@ whitespaceNext t width = record { x = t .position .x + width; y = t .position .y
 unfoldable pub orNone : Rectangle → Rectangle
 orNone a = cond (isEmpty a) (rectangle origin origin 0 0) a
 
+-- "cut to the frame"
+unfoldable pub cutToFrame : List ℕ → Rectangle → Rectangle
+cutToFrame b a = orNone (intersection a (frameOf (frameWidth b) (frameHeight b)))
+
 -- the ink box of item n
 unfoldable pub itemInk : List ℕ → ℕ → Rectangle
 itemInk b n = inkBox (itemFont b n .mono) (item b n)
 
 -- "the smallest holding the boxes before and after, cut to the frame": of item n, from the bytes before and after
 unfoldable pub damage : List ℕ → List ℕ → ℕ → Rectangle
-damage b b′ n = orNone (intersection (join (itemInk b n) (itemInk b′ n)) (frameOf (frameWidth b) (frameHeight b)))
+damage b b′ n = cutToFrame b (join (itemInk b n) (itemInk b′ n))
 
 -- the page's pixels in a rectangle painted on a frame, and no others
 unfoldable pub repainted : List ℕ → Rectangle → List ℕ → List ℕ

@@ -1,1 +1,4 @@
 pub mod Drawing
+pub mod Frames
+pub mod Items
+pub mod Changes

@@ -1,1 +1,192 @@
-// The fresh drawing of a sheet, the damage rectangle of an edit, and repainting.
+// The fresh drawing of a sheet, and repainting.
+use geometry::ORIGIN;
+use geometry::Point;
+use geometry::Rectangle;
+use geometry::numbers::minus;
+use items::item_at;
+use sheet::fields::frame_height;
+use sheet::fields::frame_width;
+use sheet::fields::item_count;
+ghost use mathlib.Core.Path.{_≡_};
+ghost use Prim.Native.Nat.{_≤_};
+ghost use lib.ListN.{length};
+ghost use Rattle.geometry.specs.Layer.{paint, paintIn, frameOf};
+ghost use Rattle.geometry.specs.Canvas.{Canvas};
+ghost use Rattle.text.specs.Text.{next, boundingBox};
+ghost use Rattle.sheet.specs.Fields.{frameWidth, frameHeight};
+ghost use Rattle.sheet.specs.Accepted.{Accepted};
+ghost use Rattle.sheet.specs.Requires.{ItemListed};
+ghost use Rattle.sheet.specs.Records.{item, itemFont};
+ghost use Rattle.drawing.specs.Drawing.{order, itemLayer, itemsLayer, freshDrawing, whitespaceLayer, whitespaceNext, itemInk, repainted};
+ghost use Rattle.drawing.specs.Frames.{Framed};
+
+pub mod damage;
+mod items;
+
+// The rectangle of the sheet's frame.
+fn frame_of(sheet: &[u8]) -> Rectangle
+    requires { ⌜ Accepted (now sheet) ⌝ }
+    ensures { λ r. ⌜ r ≡ frameOf (frameWidth (now (sheet .entry))) (frameHeight (now (sheet .entry))) ⌝ }
+{
+    Rectangle {
+        left: ORIGIN,
+        top: ORIGIN,
+        width: frame_width(sheet),
+        height: frame_height(sheet),
+    }
+}
+
+// Draws an item in a clip; gives its next position.
+fn draw_item_in(sheet: &[u8], frame: &mut [u8], clip: Rectangle, n: u32) -> Point
+    requires { ⌜ ItemListed (now sheet) n ⌝ }
+    requires { ⌜ Canvas (frameWidth (now sheet)) (frameHeight (now sheet)) (length (now frame)) clip ⌝ }
+    ensures { λ _. ⌜ now (frame .exit) ≡ paintIn (frameWidth (now (sheet .entry))) clip (itemLayer (now (sheet .entry)) n) (now (frame .entry)) ⌝ }
+    ensures { λ r. ⌜ r ≡ next (itemFont (now (sheet .entry)) n .mono) (item (now (sheet .entry)) n) ⌝ }
+{
+    let fw = frame_width(sheet) as usize;
+    let fh = frame_height(sheet) as usize;
+    let item = item_at(sheet, n);
+    let k = item.font_number;
+    let atlas = records::atlas_bytes(sheet, k);
+    let mapping = records::mapping_bytes(sheet, k);
+    let words = records::text_bytes(sheet, n);
+    let font = item.font;
+    let style = item.character_style;
+    let text_style = item.text_style;
+    let p = item.position;
+    text::draw(
+        frame,
+        fw,
+        fh,
+        clip,
+        atlas,
+        mapping,
+        words,
+        font,
+        style,
+        text_style,
+        p.x,
+        p.y,
+    )
+}
+
+// The ink box of an item.
+fn item_ink(sheet: &[u8], n: u32) -> Rectangle
+    requires { ⌜ ItemListed (now sheet) n ⌝ }
+    ensures { λ r. ⌜ r ≡ itemInk (now (sheet .entry)) n ⌝ }
+{
+    let item = item_at(sheet, n);
+    let words = records::text_bytes(sheet, n);
+    let font = item.font;
+    let style = item.character_style;
+    let text_style = item.text_style;
+    let p = item.position;
+    text::ink_box(words, font, style, text_style, p.x, p.y)
+}
+
+// Draws an item in a clip; one whose ink box the clip does not meet is not drawn.
+fn draw_met_item(sheet: &[u8], frame: &mut [u8], clip: Rectangle, n: u32)
+    requires { ⌜ ItemListed (now sheet) n ⌝ }
+    requires { ⌜ Canvas (frameWidth (now sheet)) (frameHeight (now sheet)) (length (now frame)) clip ⌝ }
+    ensures { λ _. ⌜ now (frame .exit) ≡ paintIn (frameWidth (now (sheet .entry))) clip (itemLayer (now (sheet .entry)) n) (now (frame .entry)) ⌝ }
+{
+    let met = item_ink(sheet, n).intersection(clip);
+    if met.is_empty() {
+        return;
+    }
+    draw_item_in(sheet, frame, clip, n);
+}
+
+// Draws the items in a clip, in order.
+fn draw_items(sheet: &[u8], frame: &mut [u8], clip: Rectangle)
+    requires { ⌜ Accepted (now sheet) ⌝ }
+    requires { ⌜ Canvas (frameWidth (now sheet)) (frameHeight (now sheet)) (length (now frame)) clip ⌝ }
+    ensures { λ _. ⌜ now (frame .exit) ≡ paintIn (frameWidth (now (sheet .entry))) clip (itemsLayer (now (sheet .entry)) (order (now (sheet .entry)))) (now (frame .entry)) ⌝ }
+{
+    let items = item_count(sheet);
+    let mut n: u32 = 0;
+    while n < items {
+        draw_met_item(sheet, frame, clip, n);
+        n += 1;
+    }
+}
+
+// Paints the page's pixels in a rectangle of the frame: paper, then the items.
+pub fn repaint(sheet: &[u8], frame: &mut [u8], area: Rectangle)
+    requires { ⌜ Accepted (now sheet) ⌝ }
+    requires { ⌜ Canvas (frameWidth (now sheet)) (frameHeight (now sheet)) (length (now frame)) area ⌝ }
+    ensures { λ _. ⌜ now (frame .exit) ≡ repainted (now (sheet .entry)) area (now (frame .entry)) ⌝ }
+{
+    let fw = frame_width(sheet) as usize;
+    let fh = frame_height(sheet) as usize;
+    let grey = sheet::fields::paper(sheet);
+    geometry::fill_solid(frame, fw, fh, area, area, grey);
+    draw_items(sheet, frame, area);
+}
+
+// Draws the page on a frame of the sheet's size.
+pub fn draw(sheet: &[u8], frame: &mut [u8])
+    requires { ⌜ Framed (now sheet) (now frame) ⌝ }
+    ensures { λ _. ⌜ now (frame .exit) ≡ freshDrawing (now (sheet .entry)) (now (frame .entry)) ⌝ }
+{
+    let area = frame_of(sheet);
+    repaint(sheet, frame, area);
+}
+
+// Draws an item on a frame of the sheet's size; gives its next position.
+pub fn draw_item(sheet: &[u8], frame: &mut [u8], n: u32) -> Point
+    requires { ⌜ ItemListed (now sheet) n ⌝ }
+    requires { ⌜ Framed (now sheet) (now frame) ⌝ }
+    ensures { λ _. ⌜ now (frame .exit) ≡ paint (frameWidth (now (sheet .entry))) (itemLayer (now (sheet .entry)) n) (now (frame .entry)) ⌝ }
+    ensures { λ r. ⌜ r ≡ next (itemFont (now (sheet .entry)) n .mono) (item (now (sheet .entry)) n) ⌝ }
+{
+    let clip = frame_of(sheet);
+    draw_item_in(sheet, frame, clip, n)
+}
+
+// Draws whitespace of a width at an item's place in a clip; gives the next position.
+fn draw_whitespace_in(sheet: &[u8], frame: &mut [u8], clip: Rectangle, n: u32, width: u32) -> Point
+    requires { ⌜ ItemListed (now sheet) n ⌝ }
+    requires { ⌜ Canvas (frameWidth (now sheet)) (frameHeight (now sheet)) (length (now frame)) clip ⌝ }
+    requires { ⌜ width ≤ 65_535 ⌝ }
+    ensures { λ _. ⌜ now (frame .exit) ≡ paintIn (frameWidth (now (sheet .entry))) clip (whitespaceLayer (itemFont (now (sheet .entry)) n .mono) (item (now (sheet .entry)) n) width) (now (frame .entry)) ⌝ }
+    ensures { λ r. ⌜ r ≡ whitespaceNext (item (now (sheet .entry)) n) width ⌝ }
+{
+    let fw = frame_width(sheet) as usize;
+    let fh = frame_height(sheet) as usize;
+    let item = item_at(sheet, n);
+    let font = item.font;
+    let style = item.character_style;
+    let text_style = item.text_style;
+    let baseline = text_style.baseline;
+    let p = item.position;
+    let top = minus(p.y, line::baseline_offset(font, baseline));
+    let x = line::draw_whitespace(frame, fw, fh, clip, font, style, width, p.x, top);
+    Point { x, y: p.y }
+}
+
+// Draws whitespace of a width at an item's place on a frame of the sheet's size; gives the next position.
+pub fn draw_whitespace(sheet: &[u8], frame: &mut [u8], n: u32, width: u32) -> Point
+    requires { ⌜ ItemListed (now sheet) n ⌝ }
+    requires { ⌜ Framed (now sheet) (now frame) ⌝ }
+    requires { ⌜ width ≤ 65_535 ⌝ }
+    ensures { λ _. ⌜ now (frame .exit) ≡ paint (frameWidth (now (sheet .entry))) (whitespaceLayer (itemFont (now (sheet .entry)) n .mono) (item (now (sheet .entry)) n) width) (now (frame .entry)) ⌝ }
+    ensures { λ r. ⌜ r ≡ whitespaceNext (item (now (sheet .entry)) n) width ⌝ }
+{
+    let clip = frame_of(sheet);
+    draw_whitespace_in(sheet, frame, clip, n, width)
+}
+
+// The measured box of an item.
+pub fn bounding_box(sheet: &[u8], n: u32) -> Rectangle
+    requires { ⌜ ItemListed (now sheet) n ⌝ }
+    ensures { λ r. ⌜ r ≡ boundingBox (itemFont (now (sheet .entry)) n .mono) (item (now (sheet .entry)) n) ⌝ }
+{
+    let item = item_at(sheet, n);
+    let words = records::text_bytes(sheet, n);
+    let font = item.font;
+    let style = item.character_style;
+    let text_style = item.text_style;
+    let p = item.position;
+    text::bounding_box(words, font, style, text_style, p.x, p.y)
+}

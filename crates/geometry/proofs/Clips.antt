@@ -1,14 +1,14 @@
 -- Laws of what a clip shows of an area: the intersection of the two, as the painters compute it. Assumes nothing.
-use Prim.Native.Nat.{ℕ, _+_, _-_, _≤_, _<_}
+use Prim.Native.Nat.{ℕ, _+_, _-_, _≤_}
 use native.Mathlib.Omega.{arith}
-use mathlib.Core.Path.{_≡_, refl, sym, ap, _∙_}
+use mathlib.Core.Path.{_≡_, sym, _∙_}
 use mathlib.Core.Bool.{Bool, true, false}
 use mathlib.Core.List.{List}
 use Rattle.geometry.specs.declared.Rectangle.{Rectangle}
 use Rattle.geometry.specs.Rectangle.{isEmpty, intersection}
 use Rattle.geometry.specs.Layer.{origin, Layer, within, paint, paintIn}
 use Rattle.geometry.specs.Canvas.{Canvas, onFrame}
-use Rattle.geometry.proofs.Rectangles.{In, in-not-empty, not-empty}
+use Rattle.geometry.proofs.Rectangles.{in-not-empty, not-empty}
 use Rattle.geometry.proofs.Layers.{within-out, within-intersection, paint-none, paint-same}
 
 module _ (clip area shown : Rectangle) (e : shown ≡ intersection clip area) where
@@ -21,6 +21,12 @@ module _ (clip area shown : Rectangle) (e : shown ≡ intersection clip area) wh
   pub shown-in-area : (area .left ≤ shown .left) × (area .top ≤ shown .top)
   unfolding intersection
   shown-in-area = rw e (omega arith)
+
+  pub shown-past-left : area .left ≤ shown .left
+  shown-past-left = shown-in-area .0
+
+  pub shown-past-top : area .top ≤ shown .top
+  shown-past-top = shown-in-area .1
 
   -- where it is not empty it ends in both
   pub shown-ends : isEmpty shown ≡ false → (shown .left + shown .width ≤ clip .left + clip .width) × (shown .top + shown .height ≤ clip .top + clip .height)

@@ -1,8 +1,8 @@
 -- Laws of filling: from a row filled to an area filled in a clip. Assumes nothing.
 use Prim.Native.Nat.{ℕ, _+_, _-_, _*_, _≤_, _<_}
-use native.Mathlib.Nat.{add-sub-cancel-left, mul-le-mul-right, mul-le-mul, add-mul}
+use native.Mathlib.Nat.{add-sub-cancel-left}
 use native.Mathlib.Omega.{arith}
-use mathlib.Core.Path.{_≡_, refl, sym, ap, _∙_}
+use mathlib.Core.Path.{_≡_, refl, sym, _∙_}
 use mathlib.Core.Bool.{Bool, true}
 use mathlib.Core.List.{List}
 use lib.ListN.{length, take, drop, replicate}
@@ -13,11 +13,11 @@ use Rattle.geometry.specs.declared.Rectangle.{Rectangle}
 use Rattle.geometry.specs.declared.OptionalGrey.{OptionalGrey}
 use Rattle.geometry.specs.declared.OptionalGrey.the-variants.{Unset, Set}
 use Rattle.geometry.specs.Rectangle.{isEmpty, intersection}
-use Rattle.geometry.specs.Layer.{origin, Layer, within, colored, filled, paint, paintIn}
+use Rattle.geometry.specs.Layer.{origin, Layer, colored, filled, paint, paintIn}
 use Rattle.geometry.specs.Canvas.{Canvas, onFrame}
 use Rattle.geometry.proofs.Layers.{within-none, paint-none}
 use Rattle.geometry.proofs.Rows.{replicate-mapIndexed}
-use Rattle.geometry.proofs.Frames.{RowsPainted, rows-step, rows-run, paint-run}
+use Rattle.geometry.proofs.Frames.{RowsPainted, rows-room, rows-step, rows-run, paint-run}
 use Rattle.geometry.proofs.Clips.{paint-unshown, shown-on-frame, paint-shown}
 
 -- the layer that is grey everywhere
@@ -32,31 +32,22 @@ pub fill-step : (fw fh l t w h k grey : ℕ) (xs frame part : List ℕ)
 fill-step fw fh l t w h k grey xs frame part canvas p less e =
     rows-step fw fh l t w h k 0 (solid grey) (λ i x. grey) xs frame part canvas p less (e ∙ sym (replicate-mapIndexed grey 0 _)) (λ i x u. refl)
 
--- and ends with the rectangle filled
-pub fill-end : (fw l t w h k grey : ℕ) (xs frame : List ℕ) → RowsPainted fw l t w h k (solid grey) xs frame → h ≤ k
-    → frame ≡ paint fw (filled (onFrame l t w h) (Set grey)) xs
-unfolding filled
-fill-end fw l t w h k grey xs frame p past = let e : k ≡ h = omega arith in rw e at (p .painted)
-
 -- rows as wide as the frame are one part of it
 module _ (fw fh n l t w h : ℕ) (canvas : Canvas fw fh n (onFrame l t w h)) where
-  pub rows-room : (t * fw + h * fw ≤ n) × (n ≤ 262144)
-  rows-room =
-      let m : (t + h) * fw ≤ fh * fw = mul-le-mul-right fw (omega (arith, canvas .foot)) in
-      let p : fh * fw ≤ 512 * 512 = mul-le-mul (canvas .height) (canvas .width) in
-      omega (arith, canvas .size)
+  whole-rows-room : (t * fw + h * fw ≤ n) × (n ≤ 262144)
+  whole-rows-room = omega (arith, rows-room fw fh n l t w h h canvas (omega arith))
 
   pub rows-start-fits : Fits w64 (t * fw)
-  rows-start-fits = omega (arith, rows-room)
+  rows-start-fits = omega (arith, whole-rows-room)
 
   pub rows-height-fits : Fits w64 (h * fw)
-  rows-height-fits = omega (arith, rows-room)
+  rows-height-fits = omega (arith, whole-rows-room)
 
   pub rows-end-fits : Fits w64 (t * fw + h * fw)
-  rows-end-fits = omega (arith, rows-room)
+  rows-end-fits = omega (arith, whole-rows-room)
 
   pub rows-end-in : t * fw + h * fw ≤ n
-  rows-end-in = rows-room .0
+  rows-end-in = whole-rows-room .0
 
 pub fill-whole-rows : (fw fh l t w h grey : ℕ) (xs part : List ℕ) → Canvas fw fh (length xs) (onFrame l t w h) → w ≡ fw
     → part ≡ replicate (length (take (t * fw + h * fw - t * fw) (drop (t * fw) xs))) grey
@@ -64,7 +55,7 @@ pub fill-whole-rows : (fw fh l t w h grey : ℕ) (xs part : List ℕ) → Canvas
 unfolding filled
 fill-whole-rows fw fh l t w h grey xs part canvas e ep =
     rw (ep ∙ sym (replicate-mapIndexed grey (t * fw) (take (t * fw + h * fw - t * fw) (drop (t * fw) xs))), add-sub-cancel-left (t * fw) (h * fw))
-    (paint-run fw (t * fw) (h * fw) (onFrame l t w h) (solid grey) xs (rows-run fw l t w h e (omega (arith, canvas .right))) (rows-room fw fh (length xs) l t w h canvas .0))
+    (paint-run fw (t * fw) (h * fw) (onFrame l t w h) (solid grey) xs (rows-run fw l t w h e (omega (arith, canvas .right))) (rows-end-in fw fh (length xs) l t w h canvas))
 
 -- an area filled in a clip: nothing where they share nothing, else what they share
 module _ (clip area shown : Rectangle) (color : OptionalGrey) (xs : List ℕ) (e : shown ≡ intersection clip area) (fw : ℕ) where

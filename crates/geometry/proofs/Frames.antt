@@ -1,11 +1,11 @@
 -- Laws of a frame: a run of its pixels painted and put back, and a rectangle of it painted row by row. Assumes nothing.
-use Prim.Native.Nat.{ℕ, zero, suc, _+_, _-_, _*_, _/_, _%_, _≤_, _<_}
-use native.Mathlib.Nat.{add-zero, add-suc, suc-add, add-mul, one-mul, mul-zero, mul-le-mul, mul-le-mul-right, mod-lt, div-add-mod', div-lt-iff-lt-mul, le-div-iff-mul-le, eq-zero-or-pos, eq-or-lt-of-le, add-sub-cancel-left}
+use Prim.Native.Nat.{ℕ, suc, _+_, _-_, _*_, _/_, _%_, _≤_, _<_}
+use native.Mathlib.Nat.{add-zero, add-suc, suc-add, add-mul, mul-zero, mul-le-mul, mul-le-mul-right, mod-lt, div-add-mod', div-lt-iff-lt-mul, le-div-iff-mul-le, eq-zero-or-pos, eq-or-lt-of-le, add-sub-cancel-left}
 use native.Mathlib.Omega.{arith}
 use mathlib.Core.Path.{_≡_, refl, sym, ap, _∙_}
 use mathlib.Core.List.{List, [], _∷_, _++_}
 use mathlib.Core.Logic.{⊎-elim}
-use lib.ListN.{length, getD, take, drop, replicate, length-drop, take-append-drop}
+use lib.ListN.{length, getD, take, drop, length-drop, take-append-drop}
 use lib.Seq.{length-take-le, ext-getD}
 use lib.Arith.{digits-div, digits-mod}
 use mir.Syntax.{w64}
@@ -16,7 +16,6 @@ use Rattle.geometry.specs.Layer.{origin, Layer, over, within, mapIndexed
 use Rattle.geometry.specs.Canvas.{Canvas, onFrame}
 use Rattle.geometry.proofs.Rectangles.{In, in-or-out}
 use Rattle.geometry.proofs.Layers.{within-in, within-out, length-mapIndexed, mapIndexed-at, mapIndexed-same, length-paint, paint-over, paint-none, paint-same}
-use Rattle.geometry.proofs.Rows.{replicate-mapIndexed}
 
 mapIndexed-append : (f : ℕ → ℕ → ℕ) (k : ℕ) (xs ys : List ℕ) → mapIndexed f k (xs ++ ys) ≡ mapIndexed f k xs ++ mapIndexed f (k + length xs) ys
 unfolding mapIndexed
@@ -115,13 +114,17 @@ rows-next l t w k f c r grey = ⊎-elim
     (in-or-out (onFrame l t w k) c r))
     (in-or-out (onFrame l (t + k) w 1) c r)
 
+-- the rows of a rectangle up to its row j end within the frame, which is small
+pub rows-room : (fw fh n l t w h j : ℕ) → Canvas fw fh n (onFrame l t w h) → j ≤ h → ((t + j) * fw ≤ n) × (n ≤ 262144)
+rows-room fw fh n l t w h j canvas le =
+    let m : (t + j) * fw ≤ fh * fw = mul-le-mul-right fw (omega (arith, canvas .foot)) in
+    let p : fh * fw ≤ 512 * 512 = mul-le-mul (canvas .height) (canvas .width) in
+    omega (arith, canvas .size)
+
 -- a row of a rectangle ends within the frame, and its index fits
 module _ (fw fh n l t w h k : ℕ) (canvas : Canvas fw fh n (onFrame l t w h)) (less : k < h) where
   pub row-room : ((t + k) * fw + l + w ≤ n) × (n ≤ 262144)
-  row-room =
-      let m : (t + k + 1) * fw ≤ fh * fw = mul-le-mul-right fw (omega arith) in
-      let p : fh * fw ≤ 512 * 512 = mul-le-mul (canvas .height) (canvas .width) in
-      omega (arith, canvas .size)
+  row-room = omega (arith, rows-room fw fh n l t w h (k + 1) canvas (omega arith), canvas .right)
 
   pub row-fits : Fits w64 ((t + k) * fw)
   row-fits = omega (arith, row-room)
@@ -159,3 +162,6 @@ rows-step fw fh l t w h k s f g xs frame part canvas p less ep agree =
     ∙ paint-over fw (within (onFrame l t w k) f) (within (onFrame l (t + k) w 1) f) xs
     ∙ paint-same fw _ (within (onFrame l t w (k + 1)) f) xs (rows-next l t w k f) in
     record { painted = q; reach = omega arith; size = ap length q ∙ length-paint fw _ xs }
+
+pub rows-end : (fw l t w h k : ℕ) (f : Layer) (xs frame : List ℕ) → RowsPainted fw l t w h k f xs frame → h ≤ k → frame ≡ paint fw (within (onFrame l t w h) f) xs
+rows-end fw l t w h k f xs frame p past = let e : k ≡ h = omega arith in rw e at (p .painted)

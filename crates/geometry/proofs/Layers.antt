@@ -3,13 +3,14 @@ use Prim.Native.Nat.{ℕ, zero, suc, _+_, _/_, _%_, _<_}
 use native.Mathlib.Nat.{add-zero, add-suc, suc-add, zero-add, le-of-suc-le-suc, not-suc-le-zero}
 use native.Mathlib.Omega.{arith}
 use mathlib.Core.Path.{_≡_, refl, sym, ap, _∙_}
+use mathlib.Core.Bool.{cond}
 use mathlib.Core.List.{List, [], _∷_}
 use mathlib.Core.Logic.{⊎-elim}
 use lib.ListN.{length, getD}
 use lib.Seq.{ext-getD}
 use Rattle.geometry.specs.declared.Rectangle.{Rectangle}
 use Rattle.geometry.specs.declared.OptionalGrey.{OptionalGrey}
-use Rattle.geometry.specs.Rectangle.{intersection}
+use Rattle.geometry.specs.Rectangle.{covers, intersection}
 use Rattle.geometry.specs.Layer.{origin, Layer, over, within, colored, filled, mapIndexed, paint}
 use Rattle.geometry.proofs.Rectangles.{In, in-covers, out-covers, in-or-out, intersection-in, intersection-both}
 
@@ -19,6 +20,10 @@ module _ (a : Rectangle) (f : Layer) (c r grey : ℕ) where
 
   pub within-out : (In a c r → ⊥) → within a f c r grey ≡ grey
   within-out o = rw (out-covers a c r o)
+
+-- layers that agree, in a rectangle
+pub within-same : (a : Rectangle) (f g : Layer) → ((c r grey : ℕ) → f c r grey ≡ g c r grey) → (c r grey : ℕ) → within a f c r grey ≡ within a g c r grey
+within-same a f g h c r grey = ap (λ (v : ℕ). cond (covers a c r) v grey) (h c r grey)
 
 -- a layer that changes nothing changes nothing in a rectangle
 pub within-none : (a : Rectangle) (f : Layer) → ((c r grey : ℕ) → f c r grey ≡ grey) → (c r grey : ℕ) → within a f c r grey ≡ grey

@@ -1,14 +1,14 @@
 -- Laws of rectangles: `covers` as a fact, and what joins and intersections hold. Assumes nothing.
 use Prim.Native.Nat.{ℕ, _+_, _-_, _≤_, _<_, min, max}
 use native.Mathlib.Omega.{arith}
-use mathlib.Core.Path.{_≡_, refl, ap, _∙_}
+use mathlib.Core.Path.{_≡_, refl, _∙_}
 use mathlib.Core.Bool.{Bool, true, false, cond, _&&_, _||_}
 use mathlib.Core.List.{List, [], _∷_}
 use mathlib.Core.Logic.{_⊎_, inl, inr}
-use lib.Dec.{leb, ltb, eqb}
+use lib.Dec.{eqb}
 use borrow.Author.Tests.{leb-true, ltb-true, le-leb, lt-ltb, ne-eqb, eqb-false}
 use Rattle.geometry.specs.declared.Rectangle.{Rectangle}
-use Rattle.geometry.specs.Rectangle.{covers, isEmpty, envelope, join, joins, intersection}
+use Rattle.geometry.specs.Rectangle.{EndsFit, covers, isEmpty, envelope, join, joins, intersection}
 
 -- a place in a rectangle
 pub record In (a : Rectangle) (c r : ℕ) : Type 0 where
@@ -123,3 +123,22 @@ module _ (a b : Rectangle) where
   pub join-neither-empty : isEmpty b ≡ false → isEmpty a ≡ false → envelope a b ≡ join a b
   unfolding join
   join-neither-empty e f = rw (e, f)
+
+-- what is made of two rectangles whose ends fit has ends that fit
+module _ (a b : Rectangle) (fa : EndsFit a) (fb : EndsFit b) where
+  pub ends-fit-envelope : EndsFit (envelope a b)
+  unfolding envelope
+  ends-fit-envelope = omega (arith, fa, fb)
+
+  pub ends-fit-join : EndsFit (join a b)
+  unfolding join
+  ends-fit-join = go (isEmpty b) (isEmpty a)
+    where
+      go : (t u : Bool) → EndsFit (cond t a (cond u b (envelope a b)))
+      go true u = fa
+      go false true = fb
+      go false false = ends-fit-envelope
+
+  pub ends-fit-intersection : EndsFit (intersection a b)
+  unfolding intersection
+  ends-fit-intersection = omega (arith, fa, fb)

@@ -4,7 +4,7 @@ use numbers::greatest;
 use numbers::least;
 use numbers::minus;
 ghost use mathlib.Core.Path.{_≡_};
-ghost use Prim.Native.Nat.{_+_, _-_, _<_, _^_, min, max};
+ghost use Prim.Native.Nat.{_+_, _-_, _<_, min, max};
 ghost use lib.ListN.{length, replicate};
 ghost use Rattle.geometry.specs.Rectangle.{EndsFit, covers, isEmpty, envelope, join, intersection};
 ghost use Rattle.geometry.specs.Layer.{paint, paintIn, filled};
@@ -128,9 +128,9 @@ fn shared(a: u32, n: u32, b: u32, m: u32) -> u32
     ensures { λ r. ⌜ r ≡ min (a + n) (b + m) - max a b ⌝ }
 {
     let from = greatest(a, b);
-    let left = minus(n, from - a);
-    let right = minus(m, from - b);
-    least(left, right)
+    let first = minus(n, from - a);
+    let second = minus(m, from - b);
+    least(first, second)
 }
 
 // Fills a row of pixels.

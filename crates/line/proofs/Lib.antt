@@ -1,2 +1,6 @@
-pub mod Advance
+pub mod Advances
 pub mod Ink
+pub mod Colors
+pub mod Painting
+pub mod Strings
+pub mod Glyphs

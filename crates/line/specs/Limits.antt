@@ -4,6 +4,7 @@ use Prim.Native.Nat.{ℕ, _≤_}
 use mathlib.Core.List.{List}
 use lib.ListN.{length}
 use Rattle.mapping.specs.Mapping.{listOf}
+use Rattle.line.specs.declared.DecorationDimensions.{DecorationDimensions}
 use Rattle.line.specs.declared.MonoFont.{MonoFont}
 use Rattle.line.specs.Line.{characterWidth, characterHeight, spacing}
 
@@ -24,8 +25,26 @@ pub record PieceLimits (atlas mapping : List ℕ) : Type 0 where
   pub atlas-short : length atlas ≤ 65_536
   pub mapping-short : length (listOf mapping) ≤ 65_536
 
+-- n bytes of text
+pub record LengthLimit (n : ℕ) : Type 0 where
+  pub text-short : n ≤ 65_536
+
 -- n bytes of text at (x, top)
 pub record PlaceLimits (n x top : ℕ) : Type 0 where
   pub text-short : n ≤ 65_536
   pub near-x : x ≤ 8_388_608
+  pub near-top : top ≤ 8_388_608
+
+-- a character after a gap, from x on
+pub record CharacterLimits (gap x : ℕ) : Type 0 where
+  pub gap-small : gap ≤ 64
+  pub near-x : x ≤ 16_777_216
+
+-- a decoration of a line with its top edge at `top`
+pub record DecorationLimits (d : DecorationDimensions) (top : ℕ) : Type 0 where
+  pub near : d .offset ≤ 255
+  pub near-top : top ≤ 8_388_608
+
+-- the top edge of a line with decorations
+pub record TopLimit (top : ℕ) : Type 0 where
   pub near-top : top ≤ 8_388_608

@@ -1,5 +1,173 @@
+use characters::Cursor;
+use characters::Step;
+ghost use mathlib.Core.Path.{_≡_};
+ghost use Prim.Native.Nat.{_-_, min};
+ghost use lib.ListN.{length};
+ghost use Rattle.mapping.specs.Entries.{entryAt, stopOf, inRange, scalarsBelow, atMost, stopRefusal, WithinLimit};
+ghost use Rattle.mapping.specs.Mapping.{range, listOf, placeFrom, index, contains, refusal};
+
+// What stands at a position of a mapping: a range of characters and the position after it, a sequence that RFC 3629 does not
+// allow, or the end of the list.
+enum Entry {
+    Range(u32, u32, Cursor),
+    IllFormed,
+    End,
+}
+
 // Where a character stands in a mapping.
 pub enum Found {
     At(u32),
     Nothing,
+}
+
+// The lesser of two numbers.
+fn at_most(v: u64, most: u64) -> u64
+    ensures { λ r. ⌜ r ≡ min v most ⌝ }
+{
+    if v < most {
+        return v;
+    }
+    most
+}
+
+// v less `by`, at least 0.
+fn minus(v: u64, by: u64) -> u64
+    ensures { λ r. ⌜ r ≡ v - by ⌝ }
+{
+    if v < by {
+        return 0;
+    }
+    v - by
+}
+
+// How many characters stand below a number.
+fn scalars_below(v: u64) -> u64
+    ensures { λ r. ⌜ r ≡ scalarsBelow v ⌝ }
+{
+    if v < 0xD800 {
+        return v;
+    }
+    if v < 0xE000 {
+        return 0xD800;
+    }
+    v - 0x800
+}
+
+// How many characters stand from `start` to `end`, both included.
+fn range_len(start: u32, end: u32) -> u64
+    ensures { λ r. ⌜ r ≡ length (range start end) ⌝ }
+{
+    let below = scalars_below(start as u64);
+    minus(scalars_below(end as u64 + 1), below)
+}
+
+// Whether ch is a character from `start` to `end`.
+fn in_range(start: u32, end: u32, ch: u32) -> bool
+    ensures { λ r. ⌜ r ≡ inRange start end ch ⌝ }
+{
+    (start <= ch) & ((ch <= end) & !characters::is_surrogate(ch))
+}
+
+// The entry where no character stands.
+fn stop(step: Step) -> Entry
+    ensures { λ r. ⌜ r ≡ stopOf step ⌝ }
+{
+    let Step::IllFormed = step else {
+        return Entry::End;
+    };
+    Entry::IllFormed
+}
+
+// The entry at the cursor.
+fn entry_at(mapping: &[u8], c: Cursor) -> Entry
+    ensures { λ r. ⌜ r ≡ entryAt (now (mapping .entry)) (c .at) ⌝ }
+{
+    let first = characters::next(mapping, c);
+    let Step::Character(ch, after) = first else {
+        return stop(first);
+    };
+    if ch != 0 {
+        return Entry::Range(ch, ch, after);
+    }
+    let second = characters::next(mapping, after);
+    let Step::Character(start, then) = second else {
+        return stop(second);
+    };
+    let third = characters::next(mapping, then);
+    let Step::Character(end, last) = third else {
+        return stop(third);
+    };
+    Entry::Range(start, end, last)
+}
+
+// The first position of a character in a mapping, or 65,536 for every position from there on.
+fn find(mapping: &[u8], ch: u32) -> Found
+    ensures { λ r. ⌜ r ≡ atMost 65_536 (placeFrom 0 ch (listOf (now (mapping .entry)))) ⌝ }
+{
+    let mut c = Cursor { at: 0 };
+    let mut k: u64 = 0;
+    loop {
+        let Entry::Range(start, end, after) = entry_at(mapping, c) else {
+            return Found::Nothing;
+        };
+        if in_range(start, end, ch) {
+            let through = range_len(start, ch);
+            let place = at_most(k + through - 1, 65536);
+            return Found::At(place as u32);
+        }
+        let len = range_len(start, end);
+        k = at_most(k + len, 65536);
+        c = after;
+    }
+}
+
+// The first position of a character in a mapping that the check accepts, else the replacement.
+pub fn index(mapping: &[u8], replacement: u32, ch: u32) -> u32
+    requires { ⌜ WithinLimit (now mapping) ⌝ }
+    ensures { λ r. ⌜ r ≡ index (now (mapping .entry)) replacement ch ⌝ }
+{
+    let Found::At(place) = find(mapping, ch) else {
+        return replacement;
+    };
+    place
+}
+
+// Whether a mapping lists a character.
+pub fn contains(mapping: &[u8], ch: u32) -> bool
+    ensures { λ r. ⌜ r ≡ contains (now (mapping .entry)) ch ⌝ }
+{
+    let Found::At(_) = find(mapping, ch) else {
+        return false;
+    };
+    true
+}
+
+// The refusal where a mapping's entries stop, after so many characters.
+fn stop_refusal(stop: Entry, count: u64) -> u32
+    ensures { λ r. ⌜ r ≡ stopRefusal stop count ⌝ }
+{
+    let Entry::End = stop else {
+        return 7;
+    };
+    if count <= 65536 {
+        return 0;
+    }
+    8
+}
+
+// 7 for an ill-formed mapping, 8 for one that spells more than 65,536 characters, else 0.
+pub fn check_mapping(mapping: &[u8]) -> u32
+    ensures { λ r. ⌜ r ≡ refusal (now (mapping .entry)) ⌝ }
+{
+    let mut c = Cursor { at: 0 };
+    let mut count: u64 = 0;
+    loop {
+        let entry = entry_at(mapping, c);
+        let Entry::Range(start, end, after) = entry else {
+            return stop_refusal(entry, count);
+        };
+        let len = range_len(start, end);
+        count = at_most(count + len, 65537);
+        c = after;
+    }
 }

@@ -12,10 +12,11 @@ use Rattle.characters.specs.Utf8.{wellFormed}
 use Rattle.mapping.specs.Mapping.{listOf}
 use Rattle.mapping.specs.Mapping
 use Rattle.sheet.specs.Fields
-use Rattle.sheet.specs.Check.{checkHeader, isLaidOut, fontLimits, checkFont, goodModes, itemLimits, itemNumbers, zeros, checkItem, firstRefusal, fontRefusal, itemRefusal, checkFonts, checkItems, check}
+use Rattle.limits.specs.Limits.{fontLimits, goodModes, itemLimits}
+use Rattle.sheet.specs.Check.{checkHeader, isLaidOut, checkFont, itemNumbers, zeros, checkItem, firstRefusal, fontRefusal, itemRefusal, checkFonts, checkItems, check}
 use Rattle.sheet.specs.Accepted.{FontFits, ItemFits, Accepted}
 use Rattle.sheet.proofs.Refusals.{need-zero, orElse-zero, all-true}
-use Rattle.sheet.proofs.Pieces.{headed, laid-out}
+use Rattle.sheet.proofs.LaidOut.{headed, laid-out}
 
 -- no record is refused
 firstRefusal-zero : (f : ℕ → ℕ) (n k : ℕ) → firstRefusal f n k ≡ 0 → (j : ℕ) → k ≤ j → j < k + n → f j ≡ 0
@@ -57,6 +58,10 @@ module _ (b : List ℕ) (o : ℕ) where
   item-tests : itemNumbers b o ≡ 0 → all itemTests ≡ true
   unfolding itemTests itemNumbers itemLimits
   item-tests h = need-zero (all itemTests) 8 0 h .0
+
+  pub text-in-slot : itemNumbers b o ≡ 0 → Fields.textLength b o ≤ Fields.slotSize b o
+  unfolding itemTests
+  text-in-slot h = leb-true _ _ (all-true itemTests (item-tests h) 1)
 
   item-fits : checkItem b o ≡ 0 → ItemFits b o
   unfolding itemTests checkItem

@@ -11,7 +11,7 @@ use Rattle.geometry.proofs.Rectangles.{and-true}
 use Rattle.characters.specs.Refusal.{need}
 use Rattle.characters.specs.Utf8.{wellFormed}
 use Rattle.sheet.specs.Fields.{itemCount, itemAt, slotOffset, slotSize, textLengthAt, styleAt}
-use Rattle.sheet.specs.Check.{goodModes}
+use Rattle.limits.specs.Limits.{goodModes}
 use Rattle.sheet.specs.Edits.{Edit, newText, newPlace, newStyle, itemNumber, inRange, textRefusal, placeRefusal, styleRefusal, refusal, biased, edited}
 use Rattle.sheet.proofs.Refusals.{need-zero}
 use Rattle.sheet.proofs.Stores.{length-putText, length-putPlace, length-putStyle, putText-other, putPlace-other, putStyle-other}

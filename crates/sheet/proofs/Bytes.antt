@@ -63,3 +63,8 @@ module _ (b b′ : List ℕ) (o : ℕ) where
       at i h =
           let l : i < n = omega (arith, simp (length-take, length-drop) at h) in
           getD-take n (drop o b′) i 0 l ∙ getD-drop o b′ i 0 ∙ s (o + i) (omega arith) (omega arith) ∙ sym (getD-take n (drop o b) i 0 l ∙ getD-drop o b i 0)
+
+-- the bytes of a file from a up to a + n
+pub slice-part : (b : List ℕ) (a n : ℕ) → take (a + n - a) (drop a b) ≡ part b a n
+unfolding part
+slice-part b a n = let s : a + n - a ≡ n = omega arith in rw s

@@ -8,15 +8,14 @@ use lib.ListN.{length, getD}
 use lib.Seq.{sets}
 use native.Mathlib.Omega.{arith}
 use borrow.Author.Tests.{ltb-true, lt-ltb, le-ltb}
-use Rattle.line.specs.declared.MonoTextStyle.{MonoTextStyle}
-use Rattle.sheet.specs.Fields.{u16, le16, coordinate, itemCount, itemAt, slotOffset, textLength, fontNumber}
+use Rattle.sheet.specs.Fields.{u16, le16, coordinate, itemCount, itemAt, slotOffset, textLength}
 use Rattle.sheet.specs.Accepted.{Accepted}
-use Rattle.sheet.specs.Records.{optionalGrey, decorationColor, font, monoTextStyle, textStyle, itemOf, item}
+use Rattle.sheet.specs.Records.{monoTextStyle, styleOf, textStyle, itemOf, item}
 use Rattle.sheet.specs.Edits.{newText, newPlace, newStyle, inRange, textRefusal, placeRefusal, styleRefusal, biased, putText, putPlace, putStyle}
 use Rattle.sheet.proofs.Bytes.{u16-sets, same-u16, same-u32, same-part}
 use Rattle.sheet.proofs.Stores.{length-putPlace, length-putStyle, putText-other, putPlace-other, putStyle-other, putText-length, putText-text, putPlace-x, putPlace-y, putStyle-at}
 use Rattle.sheet.proofs.Allowed.{text-allowed, place-allowed, style-allowed}
-use Rattle.sheet.proofs.Unchanged.{same-monoTextStyle, same-textStyle, same-fontCount, same-font}
+use Rattle.sheet.proofs.Unchanged.{same-monoTextStyle, same-textStyle, same-fontCount}
 
 -- ---- a place stored is the place read
 
@@ -33,15 +32,6 @@ pub place-read : (z : ℤ) (l : List ℕ) (o : ℕ) → inRange z ≡ true → o
 place-read z l o h r = rw (u16-sets l o (biased z) r) (coordinate-biased z h)
 
 -- ---- the item after each edit
-
--- the style that 8 bytes give
-abbrev pub styleOf : List ℕ → MonoTextStyle
-styleOf t = record {
-  «text_color» = optionalGrey (getD t 0 0) (getD t 1 0);
-  «background_color» = optionalGrey (getD t 2 0) (getD t 3 0);
-  «underline_color» = decorationColor (getD t 4 0) (getD t 5 0);
-  «strikethrough_color» = decorationColor (getD t 6 0) (getD t 7 0);
-}
 
 module _ (b : List ℕ) (i : ℕ) (g : Accepted b) where
   -- the slot stands after the record
@@ -94,7 +84,7 @@ module _ (b : List ℕ) (i : ℕ) (g : Accepted b) where
 
   pub style-edited : (t : List ℕ) → styleRefusal b i t ≡ 0
       → item (putStyle b (itemAt b i) t) i ≡ record { text = item b i .text; position = item b i .position; characterStyle = styleOf t; textStyle = item b i .textStyle }
-  unfolding item itemOf monoTextStyle
+  unfolding item itemOf monoTextStyle styleOf
   style-edited t a =
       let f = style-allowed b i t a in
       let o = itemAt b i in

@@ -1,6 +1,8 @@
 pub mod Refusals
-pub mod Pieces
+pub mod LaidOut
 pub mod Acceptance
+pub mod Loops
+pub mod Outcomes
 pub mod Bytes
 pub mod Stores
 pub mod Allowed

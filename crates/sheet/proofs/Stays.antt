@@ -13,7 +13,8 @@ use Rattle.sheet.specs.declared.Reach.{Reach}
 use Rattle.sheet.specs.declared.Reach.the-variants.{To, Off}
 use Rattle.sheet.specs.Fields
 use Rattle.sheet.specs.Fields.{part, fontCount, itemCount, fontAt, itemAt, piecesAt, slotOffset, slotSize, textLength}
-use Rattle.sheet.specs.Check.{checkHeader, fontsEnd, slotsEnd, thenSlots, layoutTests, checkFont, goodModes, itemLimits, itemNumbers, zeros, checkItem, firstRefusal, fontRefusal, itemRefusal, checkFonts, checkItems, check}
+use Rattle.limits.specs.Limits.{goodModes, itemLimits}
+use Rattle.sheet.specs.Check.{checkHeader, fontsEnd, slotsEnd, thenSlots, layoutTests, checkFont, itemNumbers, zeros, checkItem, firstRefusal, fontRefusal, itemRefusal, checkFonts, checkItems, check}
 use Rattle.sheet.specs.Accepted.{ItemIn, ItemFits, Accepted}
 use Rattle.sheet.specs.Edits.{Edit, newText, newPlace, newStyle, itemNumber, refusal, biased, putText, putPlace, putStyle, edited}
 use Rattle.sheet.proofs.Acceptance.{passed, accepted}

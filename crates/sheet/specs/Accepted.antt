@@ -7,7 +7,8 @@ use lib.ListN.{length}
 use Rattle.characters.specs.Utf8.{wellFormed}
 use Rattle.mapping.specs.Mapping.{listOf}
 use Rattle.sheet.specs.Fields
-use Rattle.sheet.specs.Check.{goodModes, zeros}
+use Rattle.limits.specs.Limits.{goodModes}
+use Rattle.sheet.specs.Check.{zeros}
 
 -- after tests 1 to 4
 pub record Headed (b : List ℕ) : Type 0 where

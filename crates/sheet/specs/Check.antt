@@ -1,24 +1,18 @@
 -- The check of a sheet: the number of document 01's first refusal, or 0. Assumes nothing.
-use Prim.Native.Nat.{ℕ, zero, suc, _+_, _*_}
+use Prim.Native.Nat.{ℕ, zero, suc, _+_}
 use mathlib.Core.Bool.{Bool, true, false, _&&_}
 use mathlib.Core.List.{List, [], _∷_}
-use lib.Dec.{ltb, leb, eqb}
+use lib.Dec.{eqb}
 use lib.ListN.{length}
 use Rattle.characters.specs.Refusal.{need, orElse, all}
 use Rattle.characters.specs.Utf8.{wellFormed}
 use Rattle.mapping.specs.Mapping
+use Rattle.limits.specs.Limits.{headerRefusal, fontLimits, itemLimits}
 use Rattle.sheet.specs.declared.Reach.{Reach}
 use Rattle.sheet.specs.declared.Reach.the-variants.{To, Off}
 use Rattle.sheet.specs.Fields
 
--- ---- refusals 1 to 4, from the header's numbers
-
-unfoldable pub headerRefusal : ℕ → ℕ → ℕ → ℕ → ℕ → ℕ → ℕ → ℕ → ℕ
-headerRefusal len whole spare edition w h fonts items =
-    need (all (leb 24 len ∷ leb len 65_536 ∷ eqb whole len ∷ eqb spare 0 ∷ [])) 1
-    (need (eqb edition 1) 2
-    (need (all (leb 1 w ∷ leb w 512 ∷ leb 1 h ∷ leb h 512 ∷ leb (w * h) 65_536 ∷ [])) 3
-    (need (all (leb fonts 4 ∷ leb items 64 ∷ [])) 4 0)))
+-- ---- refusals 1 to 4
 
 unfoldable pub checkHeader : List ℕ → ℕ
 checkHeader b =
@@ -60,24 +54,12 @@ isLaidOut b = all (layoutTests b)
 
 -- ---- refusals 6 to 8, of the font whose record stands at o
 
-unfoldable pub fontLimits : ℕ → ℕ → ℕ → ℕ → ℕ → ℕ
-fontLimits cw ch s width spare = need (all (leb cw 64 ∷ leb ch 64 ∷ leb s 64 ∷ leb width 1_024 ∷ eqb spare 0 ∷ [])) 6 0
-
 unfoldable pub checkFont : List ℕ → ℕ → ℕ
 checkFont b o =
     orElse (fontLimits (Fields.fontCw b o) (Fields.fontCh b o) (Fields.fontSpacing b o) (Fields.atlasWidth b o) (Fields.fontZero b o))
     (Mapping.refusal (Fields.mappingBytes b o))
 
 -- ---- refusals 9 and 10, of the item whose record stands at o
-
--- "0 none, 1 set", and of a decoration "0 none, 1 text colour, 2 own grey"
-unfoldable pub goodModes : ℕ → ℕ → ℕ → ℕ → Bool
-goodModes text background underline strikethrough = leb text 1 && leb background 1 && leb underline 2 && leb strikethrough 2
-
-unfoldable pub itemLimits : ℕ → ℕ → ℕ → ℕ → ℕ → ℕ → ℕ → ℕ → ℕ → ℕ → ℕ → ℕ → ℕ → ℕ
-itemLimits slot len font fonts text background underline strikethrough alignment baseline kind value spare =
-    need (all (leb slot 256 ∷ leb len slot ∷ ltb font fonts ∷ goodModes text background underline strikethrough
-    ∷ leb alignment 2 ∷ leb baseline 3 ∷ leb kind 1 ∷ leb value 1_000 ∷ eqb spare 0 ∷ [])) 9 0
 
 unfoldable pub itemNumbers : List ℕ → ℕ → ℕ
 itemNumbers b o =

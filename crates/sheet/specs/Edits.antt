@@ -10,7 +10,7 @@ use Rattle.geometry.specs.Layer.{origin}
 use Rattle.characters.specs.Refusal.{need}
 use Rattle.characters.specs.Utf8.{wellFormed}
 use Rattle.sheet.specs.Fields.{le16, itemCount, itemAt, slotOffset, slotSize, textLengthAt, styleAt}
-use Rattle.sheet.specs.Check.{goodModes}
+use Rattle.limits.specs.Limits.{goodModes}
 
 -- an edit: its kind, the item's number, and the data: a text, an x and a y, or style bytes
 pub data Edit : Type 0 where

@@ -3,3 +3,4 @@ pub mod Check
 pub mod Accepted
 pub mod Records
 pub mod Edits
+pub mod Requires

@@ -1,6 +1,7 @@
 -- Fonts and items, as drawing reads them from the file. Assumes nothing.
 use Prim.Native.Nat.{ℕ, zero, suc}
 use mathlib.Core.List.{List}
+use lib.ListN.{getD}
 use Rattle.geometry.specs.declared.OptionalGrey.{OptionalGrey}
 use Rattle.geometry.specs.declared.OptionalGrey.the-variants.{Unset, Set}
 use Rattle.line.specs.declared.MonoFont.{MonoFont}
@@ -71,6 +72,15 @@ monoTextStyle b o = record {
   «background_color» = optionalGrey (Fields.backgroundMode b o) (Fields.backgroundGrey b o);
   «underline_color» = decorationColor (Fields.underlineMode b o) (Fields.underlineGrey b o);
   «strikethrough_color» = decorationColor (Fields.strikethroughMode b o) (Fields.strikethroughGrey b o);
+}
+
+-- the style that the 8 bytes of a style edit give
+unfoldable pub styleOf : List ℕ → MonoTextStyle
+styleOf t = record {
+  «text_color» = optionalGrey (getD t 0 0) (getD t 1 0);
+  «background_color» = optionalGrey (getD t 2 0) (getD t 3 0);
+  «underline_color» = decorationColor (getD t 4 0) (getD t 5 0);
+  «strikethrough_color» = decorationColor (getD t 6 0) (getD t 7 0);
 }
 
 unfoldable pub textStyle : List ℕ → ℕ → TextStyle

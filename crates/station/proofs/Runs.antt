@@ -10,7 +10,7 @@ use Rattle.sheet.specs.Edits.{Edit, refusal, edited}
 use Rattle.sheet.proofs.Acceptance.{accepted}
 use Rattle.sheet.proofs.Stays.{stays}
 use Rattle.drawing.specs.Drawing.{pixelCount, page, repainted}
-use Rattle.drawing.proofs.Repaint.{fresh-page, length-page, same-pixelCount, repaint-page}
+use Rattle.drawing.proofs.Repainting.{fresh-page, length-page, same-pixelCount, repaint-page}
 use Rattle.station.specs.Calls.{editDamage, drawCode, drawFrame, editCode, editReply, editSheet, editFrame, onSheetCode, onSheetReply, onSheetSheet}
 use Rattle.station.specs.Machine.{plainStep, plainReply}
 

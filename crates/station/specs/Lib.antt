@@ -1,3 +1,5 @@
 pub mod Page
+pub mod Room
 pub mod Calls
+pub mod Replies
 pub mod Machine

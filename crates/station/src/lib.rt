@@ -1,4 +1,44 @@
-// The replies of the exported calls: a refused call has its number for a code and zeros.
+// The exported calls, for a host in C. Each runs the check first, then its own tests, rising; a refused call has its number for a
+// code and zeros, and leaves sheet, frame and output as they were.
+use characters::Step as Walked;
+use characters::walker::walk_from;
+use codes::draw_item_code;
+use codes::font_code;
+use codes::frame_code;
+use codes::item_code;
+use codes::page_code;
+use codes::place_code;
+use codes::place_on_sheet_code;
+use codes::style_code;
+use codes::style_on_sheet_code;
+use codes::text_code;
+use codes::text_on_sheet_code;
+use codes::whitespace_code;
+use drawing::damage::place_damage;
+use drawing::damage::style_damage;
+use drawing::damage::text_damage;
+use drawing::repaint;
+use edits::put_place;
+use edits::put_style;
+use edits::put_text;
+use page::write_page;
+use records::font_at;
+use records::mapping_bytes;
+use replies::box_reply;
+use replies::position_reply;
+use replies::refused_box;
+use replies::refused_number;
+use replies::refused_position;
+use sheet::fields::frame_height;
+use sheet::fields::frame_width;
+ghost use mathlib.Core.Path.{_≡_};
+ghost use Rattle.sheet.specs.Check.{check};
+ghost use Rattle.sheet.specs.Edits.{newText, newPlace, newStyle};
+ghost use Rattle.station.specs.Calls.{indexReply, containsReply, boundingBoxReply, drawItemReply, drawItemFrame, whitespaceReply, whitespaceFrame, drawCode, drawFrame, editReply, editSheet, editFrame, onSheetReply, onSheetSheet, pageReply, pageOutput, walkReply};
+
+mod codes;
+pub mod page;
+mod replies;
 
 // A code and a value: an index, yes or no as 1 or 0, or a length.
 #[repr(C)]
@@ -32,4 +72,264 @@ pub struct Step {
     pub ended: u32,
     pub character: u32,
     pub next: usize,
+}
+
+// The number of the sheet's first refusal, or 0 for a sheet that is accepted.
+#[no_mangle]
+pub extern "C" fn station_check(sheet: &[u8]) -> u32
+    ensures { λ r. ⌜ r ≡ check (now (sheet .entry)) ⌝ }
+{
+    sheet::check(sheet)
+}
+
+// The index of a character's glyph in a font.
+#[no_mangle]
+pub extern "C" fn station_index(sheet: &[u8], font: u32, character: u32) -> Number
+    ensures { λ r. ⌜ r ≡ indexReply (now (sheet .entry)) font character ⌝ }
+{
+    let code = font_code(sheet, font);
+    if code != 0 {
+        return refused_number(code);
+    }
+    let mono = font_at(sheet, font);
+    let mapping = mapping_bytes(sheet, font);
+    let index = mapping::index(mapping, mono.replacement_index, character);
+    Number {
+        code: 0,
+        value: index,
+    }
+}
+
+// Whether a font's mapping lists a character: 1 or 0.
+#[no_mangle]
+pub extern "C" fn station_contains(sheet: &[u8], font: u32, character: u32) -> Number
+    ensures { λ r. ⌜ r ≡ containsReply (now (sheet .entry)) font character ⌝ }
+{
+    let code = font_code(sheet, font);
+    if code != 0 {
+        return refused_number(code);
+    }
+    let mapping = mapping_bytes(sheet, font);
+    if mapping::contains(mapping, character) {
+        return Number { code: 0, value: 1 };
+    }
+    Number { code: 0, value: 0 }
+}
+
+// The measured box of an item.
+#[no_mangle]
+pub extern "C" fn station_bounding_box(sheet: &[u8], item: u32) -> Box
+    ensures { λ r. ⌜ r ≡ boundingBoxReply (now (sheet .entry)) item ⌝ }
+{
+    let code = item_code(sheet, item);
+    if code != 0 {
+        return refused_box(code);
+    }
+    let area = drawing::bounding_box(sheet, item);
+    box_reply(area)
+}
+
+// Draws an item on the frame; gives the next position.
+#[no_mangle]
+pub extern "C" fn station_draw_item(sheet: &[u8], frame: &mut [u8], item: u32) -> Position
+    ensures { λ r. ⌜ r ≡ drawItemReply (now (sheet .entry)) (now (frame .entry)) item ⌝ }
+    ensures { λ _. ⌜ now (frame .exit) ≡ drawItemFrame (now (sheet .entry)) (now (frame .entry)) item ⌝ }
+{
+    let code = draw_item_code(sheet, &frame[..], item);
+    if code != 0 {
+        return refused_position(code);
+    }
+    let next = drawing::draw_item(sheet, frame, item);
+    position_reply(next)
+}
+
+// Draws whitespace of a width at an item's place on the frame; gives the next position.
+#[no_mangle]
+pub extern "C" fn station_draw_whitespace(
+    sheet: &[u8],
+    frame: &mut [u8],
+    item: u32,
+    width: u32,
+) -> Position
+    ensures { λ r. ⌜ r ≡ whitespaceReply (now (sheet .entry)) (now (frame .entry)) item width ⌝ }
+    ensures { λ _. ⌜ now (frame .exit) ≡ whitespaceFrame (now (sheet .entry)) (now (frame .entry)) item width ⌝ }
+{
+    let code = whitespace_code(sheet, &frame[..], item, width);
+    if code != 0 {
+        return refused_position(code);
+    }
+    let next = drawing::draw_whitespace(sheet, frame, item, width);
+    position_reply(next)
+}
+
+// Draws the page on the frame.
+#[no_mangle]
+pub extern "C" fn station_draw(sheet: &[u8], frame: &mut [u8]) -> u32
+    ensures { λ r. ⌜ r ≡ drawCode (now (sheet .entry)) (now (frame .entry)) ⌝ }
+    ensures { λ _. ⌜ now (frame .exit) ≡ drawFrame (now (sheet .entry)) (now (frame .entry)) ⌝ }
+{
+    let code = frame_code(sheet, &frame[..]);
+    if code != 0 {
+        return code;
+    }
+    drawing::draw(sheet, frame);
+    0
+}
+
+// Gives an item a new text, and repaints its damage rectangle, which it gives.
+#[no_mangle]
+pub extern "C" fn station_set_text(
+    sheet: &mut [u8],
+    frame: &mut [u8],
+    item: u32,
+    text: &[u8],
+) -> Box
+    ensures { λ r. ⌜ r ≡ editReply (now (sheet .entry)) (now (frame .entry)) (newText item (now (text .entry))) ⌝ }
+    ensures { λ _. ⌜ now (sheet .exit) ≡ editSheet (now (sheet .entry)) (now (frame .entry)) (newText item (now (text .entry))) ⌝ }
+    ensures { λ _. ⌜ now (frame .exit) ≡ editFrame (now (sheet .entry)) (now (frame .entry)) (newText item (now (text .entry))) ⌝ }
+{
+    let code = text_code(&sheet[..], &frame[..], item, text);
+    if code != 0 {
+        return refused_box(code);
+    }
+    let area = text_damage(&sheet[..], item, text);
+    put_text(sheet, item, text);
+    repaint(&sheet[..], frame, area);
+    box_reply(area)
+}
+
+// Gives an item a new place, and repaints its damage rectangle, which it gives.
+#[no_mangle]
+pub extern "C" fn station_set_place(
+    sheet: &mut [u8],
+    frame: &mut [u8],
+    item: u32,
+    x: i32,
+    y: i32,
+) -> Box
+    ensures { λ r. ⌜ r ≡ editReply (now (sheet .entry)) (now (frame .entry)) (newPlace item x y) ⌝ }
+    ensures { λ _. ⌜ now (sheet .exit) ≡ editSheet (now (sheet .entry)) (now (frame .entry)) (newPlace item x y) ⌝ }
+    ensures { λ _. ⌜ now (frame .exit) ≡ editFrame (now (sheet .entry)) (now (frame .entry)) (newPlace item x y) ⌝ }
+{
+    let code = place_code(&sheet[..], &frame[..], item, x, y);
+    if code != 0 {
+        return refused_box(code);
+    }
+    let area = place_damage(&sheet[..], item, x, y);
+    put_place(sheet, item, x, y);
+    repaint(&sheet[..], frame, area);
+    box_reply(area)
+}
+
+// Gives an item a new style, and repaints its damage rectangle, which it gives.
+#[no_mangle]
+pub extern "C" fn station_set_style(
+    sheet: &mut [u8],
+    frame: &mut [u8],
+    item: u32,
+    style: &[u8],
+) -> Box
+    ensures { λ r. ⌜ r ≡ editReply (now (sheet .entry)) (now (frame .entry)) (newStyle item (now (style .entry))) ⌝ }
+    ensures { λ _. ⌜ now (sheet .exit) ≡ editSheet (now (sheet .entry)) (now (frame .entry)) (newStyle item (now (style .entry))) ⌝ }
+    ensures { λ _. ⌜ now (frame .exit) ≡ editFrame (now (sheet .entry)) (now (frame .entry)) (newStyle item (now (style .entry))) ⌝ }
+{
+    let code = style_code(&sheet[..], &frame[..], item, style);
+    if code != 0 {
+        return refused_box(code);
+    }
+    let area = style_damage(&sheet[..], item, style);
+    put_style(sheet, item, style);
+    repaint(&sheet[..], frame, area);
+    box_reply(area)
+}
+
+// Gives an item a new text on the sheet alone; gives the damage rectangle.
+#[no_mangle]
+pub extern "C" fn station_set_text_on_sheet(sheet: &mut [u8], item: u32, text: &[u8]) -> Box
+    ensures { λ r. ⌜ r ≡ onSheetReply (now (sheet .entry)) (newText item (now (text .entry))) ⌝ }
+    ensures { λ _. ⌜ now (sheet .exit) ≡ onSheetSheet (now (sheet .entry)) (newText item (now (text .entry))) ⌝ }
+{
+    let code = text_on_sheet_code(&sheet[..], item, text);
+    if code != 0 {
+        return refused_box(code);
+    }
+    let area = text_damage(&sheet[..], item, text);
+    put_text(sheet, item, text);
+    box_reply(area)
+}
+
+// Gives an item a new place on the sheet alone; gives the damage rectangle.
+#[no_mangle]
+pub extern "C" fn station_set_place_on_sheet(sheet: &mut [u8], item: u32, x: i32, y: i32) -> Box
+    ensures { λ r. ⌜ r ≡ onSheetReply (now (sheet .entry)) (newPlace item x y) ⌝ }
+    ensures { λ _. ⌜ now (sheet .exit) ≡ onSheetSheet (now (sheet .entry)) (newPlace item x y) ⌝ }
+{
+    let code = place_on_sheet_code(&sheet[..], item, x, y);
+    if code != 0 {
+        return refused_box(code);
+    }
+    let area = place_damage(&sheet[..], item, x, y);
+    put_place(sheet, item, x, y);
+    box_reply(area)
+}
+
+// Gives an item a new style on the sheet alone; gives the damage rectangle.
+#[no_mangle]
+pub extern "C" fn station_set_style_on_sheet(sheet: &mut [u8], item: u32, style: &[u8]) -> Box
+    ensures { λ r. ⌜ r ≡ onSheetReply (now (sheet .entry)) (newStyle item (now (style .entry))) ⌝ }
+    ensures { λ _. ⌜ now (sheet .exit) ≡ onSheetSheet (now (sheet .entry)) (newStyle item (now (style .entry))) ⌝ }
+{
+    let code = style_on_sheet_code(&sheet[..], item, style);
+    if code != 0 {
+        return refused_box(code);
+    }
+    let area = style_damage(&sheet[..], item, style);
+    put_style(sheet, item, style);
+    box_reply(area)
+}
+
+// The frame as a Netpbm file, stored at the head of the output, and its length.
+#[no_mangle]
+pub extern "C" fn station_write_page(sheet: &[u8], frame: &[u8], output: &mut [u8]) -> Number
+    ensures { λ r. ⌜ r ≡ pageReply (now (sheet .entry)) (now (frame .entry)) (now (output .entry)) ⌝ }
+    ensures { λ _. ⌜ now (output .exit) ≡ pageOutput (now (sheet .entry)) (now (frame .entry)) (now (output .entry)) ⌝ }
+{
+    let code = page_code(sheet, frame, &output[..]);
+    if code != 0 {
+        return refused_number(code);
+    }
+    let w = frame_width(sheet) as usize;
+    let h = frame_height(sheet) as usize;
+    let length = write_page(output, frame, w, h);
+    Number {
+        code: 0,
+        value: length as u32,
+    }
+}
+
+// One step of a walker over a line: the character at an offset and the offset of the next, the end, or 10.
+#[no_mangle]
+pub extern "C" fn station_walk(line: &[u8], offset: usize) -> Step
+    ensures { λ r. ⌜ r ≡ walkReply (now (line .entry)) offset ⌝ }
+{
+    match walk_from(line, offset) {
+        Walked::Character(character, cursor) => Step {
+            code: 0,
+            ended: 0,
+            character: character,
+            next: cursor.at,
+        },
+        Walked::IllFormed => Step {
+            code: 10,
+            ended: 0,
+            character: 0,
+            next: 0,
+        },
+        Walked::End => Step {
+            code: 0,
+            ended: 1,
+            character: 0,
+            next: offset,
+        },
+    }
 }

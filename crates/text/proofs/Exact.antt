@@ -1,19 +1,18 @@
 -- Positions in natural numbers are those of document 01 in signed ones: under the limits no subtraction is cut at 0.
 -- Assumes nothing.
-use Prim.Native.Nat.{ℕ, zero, suc, _+_, _-_, _*_, _/_, _≤_, _<_}
+use Prim.Native.Nat.{ℕ, zero, suc, _+_, _-_, _/_, _≤_}
 use native.Mathlib.Omega.{arith}
 use mathlib.Core.Path.{_≡_, refl, sym, ap, _∙_}
 use mathlib.Core.Bool.{Bool, true, false, cond}
 use mathlib.Core.List.{List, [], _∷_, List·Memᴰ, List·Memᴰ·head, List·Memᴰ·tail, List·Memᴰ·cases-cons, List·Memᴰ·not-nil}
 use mathlib.Core.Logic.{_⊎_, inl, inr}
 use lib.Dec.{eqb}
-use lib.IntN.{ℤ, pos, negsuc, _-ℤ_}
+use lib.IntN.{ℤ, pos, _-ℤ_}
 use lib.ListN.{length}
 use borrow.Author.Tests.{le-ltb}
 use Rattle.line.specs.declared.MonoFont.{MonoFont}
 use Rattle.line.specs.declared.Baseline.{Baseline}
-use Rattle.line.specs.declared.Baseline.the-variants.{Top, Bottom, Middle, Alphabetic}
-use Rattle.line.specs.Line.{characterHeight, baselineOffset, topEdge}
+use Rattle.line.specs.Line.{baselineOffset, topEdge}
 use Rattle.text.specs.declared.Alignment.{Alignment}
 use Rattle.text.specs.declared.Alignment.the-variants.{Left, Center, Right}
 use Rattle.text.specs.Text.{Text, PlacedLine, before, lines, alignedStart, lineHeight, placeLine, placeLines}

@@ -1,3 +1,7 @@
+pub mod Feeds
+pub mod Places
+pub mod Drawing
+pub mod Boxes
 pub mod Lines
 pub mod Exact
 pub mod Ink

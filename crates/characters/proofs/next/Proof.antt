@@ -1,3 +1,4 @@
+-- Each return is the definition at the lead byte found. Assumes nothing.
 use borrow.Author.Needs.{needs}
 use Rattle.characters.proofs.Sequences.{step-past, step-alone, step-cut, step-two, step-three, step-four, step-no-length}
 use Rattle.characters.proofs.next.Statement.{statement}

@@ -1,3 +1,4 @@
+-- Each return is the outcome of one test. Assumes nothing.
 use borrow.Author.Needs.{needs}
 use Rattle.characters.specs.Utf8.{scalar}
 use Rattle.characters.proofs.Tests.{calls}

@@ -1,8 +1,9 @@
 -- `fill_rows` meets its contract: at row k the first k rows of the rectangle are filled. Assumes nothing.
 use Prim.Native.Nat.{_-_}
 use borrow.Author.Needs.{needs}
-use Rattle.geometry.proofs.Frames.{RowsPainted, rows-start, row-fits, row-start-fits, row-end-fits, row-end-in}
-use Rattle.geometry.proofs.Fills.{solid, fill-step, fill-end}
+use Rattle.geometry.specs.Layer.{filled}
+use Rattle.geometry.proofs.Frames.{RowsPainted, rows-start, row-fits, row-start-fits, row-end-fits, row-end-in, rows-end}
+use Rattle.geometry.proofs.Fills.{solid, fill-step}
 use Rattle.geometry.proofs.fill_rows.Statement.{statement}
 use Rattle.geometry.proofs.fill_rows.Tie as tie
 
@@ -52,7 +53,8 @@ same-length : tie.Need-same-length Inv-loop μ-loop
 same-length c = search needs
 
 returns : tie.Need-returns Inv-loop μ-loop
-returns c = search fill-end
+unfolding filled
+returns c = search rows-end
 
 pub fill-rows-spec : {M : Type 1} → statement M
 fill-rows-spec =

@@ -1,3 +1,4 @@
+-- `shared` meets its contract: both runs are cut where the later one begins. Assumes nothing.
 use Rattle.geometry.proofs.Rectangles.{shared-run}
 use borrow.Author.Needs.{needs}
 use Rattle.geometry.proofs.shared.Statement.{statement}

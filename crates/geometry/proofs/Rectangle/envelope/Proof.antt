@@ -1,3 +1,4 @@
+-- `Rectangle::envelope` meets its contract: each edge is the definition's. Assumes nothing.
 use Rattle.geometry.specs.Rectangle.{envelope}
 use borrow.Author.Needs.{needs}
 use Rattle.geometry.proofs.Rectangle.envelope.Statement.{statement}

@@ -1,3 +1,4 @@
+-- `Rectangle::intersection` meets its contract: each edge is the definition's. Assumes nothing.
 use Rattle.geometry.specs.Rectangle.{intersection}
 use borrow.Author.Needs.{needs}
 use Rattle.geometry.proofs.Rectangle.intersection.Statement.{statement}

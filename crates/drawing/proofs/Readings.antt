@@ -1,0 +1,106 @@
+-- An item as it is read: it is the definitions' item, and within the limits of drawing. Assumes nothing.
+use Prim.Native.Nat.{ℕ, _+_, _-_, _≤_}
+use native.Mathlib.Omega.{arith}
+use mathlib.Core.Path.{_≡_, refl, ap, _∙_}
+use mathlib.Core.List.{List}
+use lib.ListN.{length, length-take}
+use Rattle.geometry.specs.declared.Point.{Point}
+use Rattle.geometry.specs.declared.Rectangle.{Rectangle}
+use Rattle.geometry.specs.Layer.{paintIn}
+use Rattle.geometry.specs.Canvas.{Canvas}
+use Rattle.mapping.specs.Entries.{WithinLimit}
+use Rattle.line.specs.declared.MonoFont.{MonoFont}
+use Rattle.line.specs.declared.MonoTextStyle.{MonoTextStyle}
+use Rattle.line.specs.Line.{fontOf, baselineOffset, whitespace}
+use Rattle.line.specs.Limits.{FontLimits}
+use Rattle.text.specs.declared.TextStyle.{TextStyle}
+use Rattle.text.specs.Text.{textOf, layer, next, boundingBox, inkBox}
+use Rattle.text.specs.Limits.{heightValue, TextLimits}
+use Rattle.sheet.specs.Fields.{part, itemAt, fontAt, fontNumber, atlasBytes, mappingBytes, textBytes, frameWidth, frameHeight}
+use Rattle.sheet.specs.Requires.{FontListed, ItemListed}
+use Rattle.sheet.specs.Records.{monoFont, font, monoTextStyle, textStyle, lineHeight, itemOf, item, itemFont}
+use Rattle.drawing.specs.declared.items.Item.{Item}
+use Rattle.drawing.specs.Drawing.{itemLayer, itemInk, whitespaceLayer, whitespaceNext}
+use Rattle.drawing.specs.Items.{ItemRead}
+
+-- ---- `item_at`
+
+height-value : (kind value : ℕ) → heightValue (lineHeight kind value) ≡ value
+unfolding lineHeight
+height-value ℕ.zero value = refl
+height-value (ℕ.suc kind) value = refl
+
+module _ (b : List ℕ) (n : ℕ) where
+  pub item-read : (k : ℕ) (f : MonoFont) (p : Point) (s : MonoTextStyle) (t : TextStyle) → ItemListed b n
+      → k ≡ fontNumber b (itemAt b n) → f ≡ monoFont b (fontAt k) → FontLimits f
+      → p ≡ itemOf b (itemAt b n) .position → p .x ≤ 4_194_304 → p .y ≤ 4_194_304
+      → s ≡ monoTextStyle b (itemAt b n) → t ≡ textStyle b (itemAt b n)
+      → ItemRead b n (record { «font_number» = k; font = f; position = p; «character_style» = s; «text_style» = t })
+  unfolding item itemOf itemFont font textStyle part
+  item-read k f p s t g ek ef limits ep px py es et =
+      let fits = g .accepted .item-fits n (g .listed) in
+      record {
+        font-number = ek;
+        font = ef ∙ ap (λ (j : ℕ). monoFont b (fontAt j)) ek;
+        position = ep;
+        character-style = es;
+        text-style = et;
+        font-limits = limits;
+        text-limits = record {
+          text-short = simp length-take (omega arith);
+          near-x = px;
+          near-y = py;
+          height-small = rw (et, height-value) (fits .height-small);
+        };
+      }
+
+  -- ---- what drawing an item requires
+
+  pub mapping-limit : (k : ℕ) (mapping : List ℕ) → FontListed b k → mapping ≡ mappingBytes b (fontAt k) → WithinLimit mapping
+  mapping-limit k mapping g e = record { spelled = rw e (g .accepted .font-fits k (g .listed) .mapping-short) }
+
+  module _ (i : Item) (words : List ℕ) (r : ItemRead b n i) (w : words ≡ textBytes b (itemAt b n)) where
+    pub item-limits : TextLimits (length words) (i .position .x) (i .position .y) (i .«text_style» .«line_height»)
+    unfolding item itemOf
+    item-limits = rw w (r .text-limits)
+
+    -- what was read is the item
+    item-is : textOf words (i .position .x) (i .position .y) (i .«character_style») (i .«text_style») ≡ item b n
+    unfolding item itemOf
+    item-is = rw (w, r .position, r .character-style, r .text-style)
+
+    pub item-next : (p : Point) → p ≡ next (i .font) (textOf words (i .position .x) (i .position .y) (i .«character_style») (i .«text_style»)) → p ≡ next (itemFont b n .mono) (item b n)
+    item-next p e = rw (item-is, r .font) at e
+
+    pub item-ink : (a : Rectangle) → a ≡ inkBox (i .font) (textOf words (i .position .x) (i .position .y) (i .«character_style») (i .«text_style»)) → a ≡ itemInk b n
+    unfolding itemInk
+    item-ink a e = rw (item-is, r .font) at e
+
+    pub item-box : (a : Rectangle) → a ≡ boundingBox (i .font) (textOf words (i .position .x) (i .position .y) (i .«character_style») (i .«text_style»)) → a ≡ boundingBox (itemFont b n .mono) (item b n)
+    item-box a e = rw (item-is, r .font) at e
+
+    pub item-painted : (fw : ℕ) (clip : Rectangle) (atlas mapping xs ys : List ℕ) → fw ≡ frameWidth b
+        → atlas ≡ atlasBytes b (fontAt (i .«font_number»)) → mapping ≡ mappingBytes b (fontAt (i .«font_number»))
+        → ys ≡ paintIn fw clip (layer (fontOf (i .font) atlas mapping) (textOf words (i .position .x) (i .position .y) (i .«character_style») (i .«text_style»))) xs
+        → ys ≡ paintIn (frameWidth b) clip (itemLayer b n) xs
+    unfolding itemLayer itemFont font
+    item-painted fw clip atlas mapping xs ys ef ea em e = rw (item-is, ef, ea, em, r .font, r .font-number) at e
+
+-- ---- the frame's size as it is read
+
+pub canvas-read : (b : List ℕ) (fw fh n : ℕ) (clip : Rectangle) → Canvas (frameWidth b) (frameHeight b) n clip → fw ≡ frameWidth b → fh ≡ frameHeight b → Canvas fw fh n clip
+canvas-read b fw fh n clip c w h = rw (w, h) c
+
+-- ---- whitespace at an item's place
+
+module _ (b : List ℕ) (n width : ℕ) (i : Item) (r : ItemRead b n i) where
+  pub whitespace-painted : (fw top offset : ℕ) (clip : Rectangle) (xs ys : List ℕ)
+      → ys ≡ paintIn fw clip (whitespace (i .font) (i .«character_style») width (i .position .x) top) xs
+      → fw ≡ frameWidth b → top ≡ i .position .y - offset → offset ≡ baselineOffset (i .font) (i .«text_style» .baseline)
+      → ys ≡ paintIn (frameWidth b) clip (whitespaceLayer (itemFont b n .mono) (item b n) width) xs
+  unfolding whitespaceLayer
+  whitespace-painted fw top offset clip xs ys e ef et eo = rw (ef, et, eo, r .font, r .position, r .character-style, r .text-style) at e
+
+  pub whitespace-next : (x : ℕ) → x ≡ i .position .x + width → _≡_ {A = Point} (record { x = x; y = i .position .y }) (whitespaceNext (item b n) width)
+  unfolding whitespaceNext
+  whitespace-next x e = rw (e, r .position)

@@ -1,0 +1,47 @@
+-- Paper in the area, then the items in it, is the page in it.
+use borrow.Author.Needs.{needs}
+use Rattle.drawing.proofs.Painting.{page-painted}
+use Rattle.drawing.proofs.Readings.{canvas-read}
+use Rattle.drawing.proofs.repaint.Statement.{statement}
+use Rattle.drawing.proofs.repaint.Tie as tie
+
+frame-width-requires : tie.Need-frame-width-requires
+frame-width-requires c κs = search needs
+
+cast-fw : tie.Need-cast-fw
+cast-fw c = search needs
+
+frame-height-requires : tie.Need-frame-height-requires
+frame-height-requires c κs = search needs
+
+cast-fh : tie.Need-cast-fh
+cast-fh c = search needs
+
+paper-requires : tie.Need-paper-requires
+paper-requires c κs = search needs
+
+fill-solid-requires : tie.Need-fill-solid-requires
+fill-solid-requires c κs = search canvas-read
+
+draw-items-requires : tie.Need-draw-items-requires
+draw-items-requires c κs = search needs
+
+same-length : tie.Need-same-length
+same-length c = search needs
+
+returns : tie.Need-returns
+returns c = search page-painted
+
+pub repaint-spec : {M : Type 1} → statement M
+repaint-spec =
+    tie.close
+    (tie.spec
+    frame-width-requires
+    cast-fw
+    frame-height-requires
+    cast-fh
+    paper-requires
+    fill-solid-requires
+    draw-items-requires
+    same-length
+    returns)

@@ -1,0 +1,60 @@
+-- A signed number of 32 bits, as the code reads it: its range, and its coordinate. Assumes nothing.
+use Prim.Native.Nat.{ℕ, suc, _≤_, _<_, _^_}
+use mathlib.Core.Path.{_≡_, refl, sym, _∙_, ap}
+use mathlib.Core.Bool.{true, false}
+use lib.Dec.{T}
+use lib.IntN.{ℤ, pos, negsuc, natAbs, _+ℤ_}
+use lib.Signed.{ltZ, nonNeg}
+use native.Mathlib.Omega.{arith}
+use mir.Syntax.{w32}
+use mir.Val.{toZ, ofZ, Fits, SFits}
+use mir.Facts.{toZ-ofZ}
+use borrow.Author.Tests.{lt-ltb, le-ltb, ltb-true, ltb-false}
+use Rattle.sheet.specs.Edits.{inRange, biased}
+
+-- the number that the code reads
+abbrev pub read : ℤ → ℤ
+read z = toZ w32 (ofZ w32 z)
+
+low : (z : ℤ) → ltZ z (negsuc 32_767) ≡ true → false ≡ inRange z
+unfolding inRange
+low (pos n) e = let z : _≡_ {A = ℕ} 0 1 = cc in absurd (omega arith)
+low (negsuc n) e = sym (le-ltb n 32_768 (omega (arith, ltb-true 32_767 n e)))
+
+not-low : (z : ℤ) → ltZ z (negsuc 32_767) ≡ false → ltZ z (pos 32_768) ≡ inRange z
+unfolding inRange
+not-low (pos n) e = refl
+not-low (negsuc n) e = sym (lt-ltb n 32_768 (omega (arith, ltb-false 32_767 n e)))
+
+moved : (z : ℤ) → inRange z ≡ true → z +ℤ pos 2_097_152 ≡ pos (biased z)
+unfolding inRange biased
+moved (pos n) h = ap pos (omega arith)
+moved (negsuc n) h = let l = ltb-true n 32_768 h in let m : suc n ≤ 2_097_152 = omega arith in simp (le-ltb _ _ m)
+
+small : (z : ℤ) → inRange z ≡ true → biased z < 2 ^ 31
+unfolding inRange biased
+small (pos n) h = let l = ltb-true n 32_768 h in omega arith
+small (negsuc n) h = let l = ltb-true n 32_768 h in omega arith
+
+module _ (z : ℤ) (f : SFits w32 z) where
+  pub below : ltZ (read z) (negsuc 32_767) ≡ true → false ≡ inRange z
+  below h = low z (rw (toZ-ofZ {z = z} f) at h)
+
+  pub not-below : ltZ (read z) (negsuc 32_767) ≡ false → ltZ (read z) (pos 32_768) ≡ inRange z
+  not-below h = rw (toZ-ofZ {z = z} f) (not-low z (rw (toZ-ofZ {z = z} f) at h))
+
+  module _ (h : inRange z ≡ true) where
+    sum : read z +ℤ pos 2_097_152 ≡ pos (biased z)
+    sum = ap (λ (x : ℤ). x +ℤ pos 2_097_152) (toZ-ofZ {z = z} f) ∙ moved z h
+
+    pub sum-fits : SFits w32 (read z +ℤ pos 2_097_152)
+    sum-fits = rw sum (record { sfits = small z h })
+
+    sum-read : read (read z +ℤ pos 2_097_152) ≡ pos (biased z)
+    sum-read = toZ-ofZ {z = read z +ℤ pos 2_097_152} sum-fits ∙ sum
+
+    pub sum-casts : T (nonNeg (read (read z +ℤ pos 2_097_152))) × Fits w32 (natAbs (read (read z +ℤ pos 2_097_152)))
+    sum-casts = rw sum-read (tt, record { fits = omega (arith, small z h) })
+
+    pub sum-is : natAbs (read (read z +ℤ pos 2_097_152)) ≡ biased z
+    sum-is = ap natAbs sum-read

@@ -1,0 +1,153 @@
+-- `find`, `index`, `contains` and `check_mapping`: a law for each fact that they need, where x is the entry at a position. Assumes nothing.
+use mathlib.Core.Path.{_≡_, refl, sym, _∙_, ap}
+use mathlib.Core.Logic.{_⊎_, ⊎-elim}
+use mathlib.Core.Bool.{Bool, true, false, cond, and-eq-true-iff, true≢false}
+use mathlib.Core.List.{List, [], _∷_}
+use Prim.Native.Nat.{ℕ, suc, _+_, _-_, _<_, _≤_, min}
+use native.Mathlib.Omega.{arith}
+use native.Mathlib.Decide.{decLt}
+use borrow.Author.Tests.{leb-true, not-true, le-leb, lt-leb}
+use denote.Enum.Declared.{tagOf}
+use lib.ListN.{length, length-append}
+use lib.Dec.{leb, eqb}
+use mir.Val.{Fits}
+use mir.Syntax.{w64}
+use Rattle.characters.specs.declared.Cursor.{Cursor}
+use Rattle.characters.specs.Utf8.{isSurrogate, charsFrom, wellFormedFrom}
+use Rattle.mapping.proofs.Entry.{the-type as entry-type}
+use Rattle.mapping.specs.declared.Entry.{Entry}
+use Rattle.mapping.specs.declared.Entry.the-variants as entry
+use Rattle.mapping.specs.declared.Found.{Found}
+use Rattle.mapping.specs.declared.Found.the-variants.{At, Nothing}
+use Rattle.mapping.specs.Entries.{entryAt, inRange, atMost, stopRefusal, WithinLimit}
+use Rattle.mapping.specs.Mapping.{range, spelled, listOf, placeFrom, placeOr, isFound, refusal}
+use Rattle.mapping.proofs.Ranges.{length-range-le, length-range-through, place-in, place-past}
+use Rattle.mapping.proofs.Entries.{entry-range, entry-stopped, entry-ill-formed, entry-end, stopped-entry}
+
+-- ---- positions up to a limit
+
+-- from which position on it is counted does not matter where both are past the limit
+place-capped : (most ch : ℕ) (l : List ℕ) (j k : ℕ) → min j most ≡ min k most → atMost most (placeFrom j ch l) ≡ atMost most (placeFrom k ch l)
+unfolding placeFrom
+place-capped most ch [] j k e = refl
+place-capped most ch (x ∷ l) j k e = by (eqb x ch) (place-capped most ch l (suc j) (suc k) (omega arith))
+  where
+    by : (t : Bool) → atMost most (placeFrom (suc j) ch l) ≡ atMost most (placeFrom (suc k) ch l)
+        → atMost most (cond t (At j) (placeFrom (suc j) ch l)) ≡ atMost most (cond t (At k) (placeFrom (suc k) ch l))
+    by true i = ap At e
+    by false i = i
+
+-- a position is within the list
+pub place-below : (k ch : ℕ) (l : List ℕ) {i : ℕ} → placeFrom k ch l ≡ At i → i < k + length l
+unfolding placeFrom
+place-below k ch [] {i} e = absurd (let z : _≡_ {A = ℕ} 0 1 = cc in omega arith)
+place-below k ch (x ∷ l) {i} e = by (eqb x ch) (λ q. omega (arith, place-below (suc k) ch l q)) e
+  where
+    by : (t : Bool) → (placeFrom (suc k) ch l ≡ At i → i < k + suc (length l)) → cond t (At k) (placeFrom (suc k) ch l) ≡ At i → i < k + suc (length l)
+    by true ih q = let j : k ≡ i = cc in omega arith
+    by false ih q = ih q
+
+-- ---- a turn of the loops
+
+module _ (s : List ℕ) (at : ℕ) {x : Entry} (e : x ≡ entryAt s at) {start end : ℕ} {c : Cursor} (q : x ≡ entry.Range start end c) where
+  pub entry-within : c .at ≤ length s
+  entry-within = entry-range s at e q .within
+
+  pub entry-less : length s - c .at < length s - at
+  entry-less = let g = entry-range s at e q in omega arith
+
+  pub count-fits : (k z : ℕ) → k ≤ 65_537 → z ≡ length (range start end) → Fits w64 (k + z)
+  count-fits k z h i = let g = entry-range s at e q in let l = length-range-le start end in omega arith
+
+  module _ (ch : ℕ) (t : Bool) (i : t ≡ inRange start end ch) where
+    module _ (y : t ≡ true) where
+      in-range : (start ≤ ch) × (ch ≤ end) × (isSurrogate ch ≡ false)
+      unfolding inRange
+      in-range =
+          let p = and-eq-true-iff (leb start ch) _ .0 (sym i ∙ y) in
+          let r = and-eq-true-iff (leb ch end) _ .0 (p .1) in
+          (leb-true start ch (p .0), leb-true ch end (r .0), not-true _ (r .1))
+
+      pub found-fits : (k p : ℕ) → k ≤ 65_537 → p ≡ length (range start ch) → Fits w64 (k + p)
+      found-fits k p h z = let g = entry-range s at e q in let r = in-range in let l = length-range-le start ch in omega arith
+
+      pub found-pos : (k p : ℕ) → p ≡ length (range start ch) → 1 ≤ k + p
+      found-pos k p z = let r = in-range in let l = length-range-through start ch (r .2) (r .0) in omega arith
+
+      pub found-at : (most k p j : ℕ) (f : Found) → p ≡ length (range start ch) → j ≡ min (k + p - 1) most
+          → atMost most (placeFrom k ch (spelled (charsFrom s at))) ≡ f → At j ≡ f
+      found-at most k p j f z m h =
+          let r = in-range in
+          let here : placeFrom k ch (spelled (charsFrom s at)) ≡ At (k + p - 1) =
+          rw (entry-range s at e q .spells, z) (place-in ch (spelled (charsFrom s (c .at))) k start end (r .2) (r .0) (r .1)) in
+          rw m (rw here at h)
+
+    pub find-again : t ≡ false → (most k z j : ℕ) (f : Found) → z ≡ length (range start end) → j ≡ min (k + z) most
+        → atMost most (placeFrom k ch (spelled (charsFrom s at))) ≡ f → atMost most (placeFrom j ch (spelled (charsFrom s (c .at)))) ≡ f
+    unfolding inRange
+    find-again n most k z j f l m h =
+        let inside : isSurrogate ch ≡ false → start ≤ ch → ch ≤ end → inRange start end ch ≡ true =
+        λ p a b. rw (le-leb start ch a, le-leb ch end b, p) in
+        let there : placeFrom k ch (spelled (charsFrom s at)) ≡ placeFrom (k + z) ch (spelled (charsFrom s (c .at))) =
+        rw (entry-range s at e q .spells, l)
+        (place-past ch (spelled (charsFrom s (c .at))) (suc end - start) k start (λ p a b. true≢false (sym (inside p a (omega arith)) ∙ sym i ∙ n))) in
+        place-capped most ch (spelled (charsFrom s (c .at))) j (k + z) (omega arith) ∙ (rw there at h)
+
+  pub walk-again : (w : Bool) → wellFormedFrom s at ≡ w → wellFormedFrom s (c .at) ≡ w
+  walk-again w i = sym (entry-range s at e q .well-formed) ∙ i
+
+  pub count-again : (most k z j total : ℕ) → z ≡ length (range start end) → j ≡ min (k + z) most
+      → min (k + length (spelled (charsFrom s at))) most ≡ total → min (j + length (spelled (charsFrom s (c .at)))) most ≡ total
+  count-again most k z j total l m h =
+      let g = ap length (entry-range s at e q .spells) ∙ length-append (range start end) (spelled (charsFrom s (c .at))) in
+      omega arith
+
+-- ---- the end of the loops
+
+limit-same : (j k : ℕ) → min j 65_537 ≡ min k 65_537 → leb j 65_536 ≡ leb k 65_536
+limit-same j k e = elim (decLt 65_536 j) [
+  | yes l ↦ rw (lt-leb j 65_536 l, lt-leb k 65_536 (omega arith))
+  | no l ↦ rw (le-leb j 65_536 (omega arith), le-leb k 65_536 (omega arith))
+]
+
+module _ (s : List ℕ) (at : ℕ) {x : Entry} (e : x ≡ entryAt s at) (t : (tagOf entry-type x ≡ 1) ⊎ (tagOf entry-type x ≡ 2)) where
+  pub find-stopped : (most k ch : ℕ) (f : Found) → atMost most (placeFrom k ch (spelled (charsFrom s at))) ≡ f → Nothing ≡ f
+  unfolding placeFrom
+  find-stopped most k ch f h = rw (entry-stopped s at e t) at h
+
+  pub check-stopped : (k r : ℕ) → k ≤ 65_537 → wellFormedFrom s at ≡ wellFormedFrom s 0
+      → min (k + length (spelled (charsFrom s at))) 65_537 ≡ min (length (listOf s)) 65_537 → r ≡ stopRefusal x k → r ≡ refusal s
+  unfolding refusal stopRefusal
+  check-stopped k r h w i o = ⊎-elim
+      (λ q. let v : wellFormedFrom s 0 ≡ false = sym w ∙ entry-ill-formed s at e q .well-formed in rw (o, q, v))
+      (λ q.
+      let v : wellFormedFrom s 0 ≡ true = sym w ∙ entry-end s at e q .well-formed in
+      let l = ap length (entry-end s at e q .spells) in
+      rw (o, q, v, limit-same k (length (listOf s)) (omega arith)))
+      (stopped-entry x t)
+
+-- ---- `index` and `contains`
+
+pub index-at : (m : List ℕ) (replacement ch i : ℕ) (f : Found) → WithinLimit m → f ≡ atMost 65_536 (placeFrom 0 ch (listOf m)) → f ≡ At i
+    → i ≡ placeOr replacement (placeFrom 0 ch (listOf m))
+index-at m replacement ch i f h e q = by (placeFrom 0 ch (listOf m)) refl e
+  where
+    by : (g : Found) → placeFrom 0 ch (listOf m) ≡ g → f ≡ atMost 65_536 g → i ≡ placeOr replacement g
+    by (At k) p e =
+        let j : i ≡ min k 65_536 = cc in
+        let b = place-below 0 ch (listOf m) p in
+        let l = h .spelled in
+        omega arith
+    by Nothing p e = absurd (let z : _≡_ {A = ℕ} 0 1 = cc in omega arith)
+
+pub index-nothing : (replacement : ℕ) (f g : Found) → f ≡ atMost 65_536 g → f ≡ Nothing → replacement ≡ placeOr replacement g
+index-nothing replacement f (At k) e q = absurd (let z : _≡_ {A = ℕ} 0 1 = cc in omega arith)
+index-nothing replacement f Nothing e q = refl
+
+pub contains-at : (i : ℕ) (f g : Found) → f ≡ atMost 65_536 g → f ≡ At i → true ≡ isFound g
+contains-at i f (At k) e q = refl
+contains-at i f Nothing e q = absurd (let z : _≡_ {A = ℕ} 0 1 = cc in omega arith)
+
+pub contains-nothing : (f g : Found) → f ≡ atMost 65_536 g → f ≡ Nothing → false ≡ isFound g
+contains-nothing f (At k) e q = absurd (let z : _≡_ {A = ℕ} 0 1 = cc in omega arith)
+contains-nothing f Nothing e q = refl

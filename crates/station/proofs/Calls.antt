@@ -1,0 +1,131 @@
+-- The outcome of each call, one law for each way out: refused, or what is done where the code is 0. Assumes nothing.
+use Prim.Native.Nat.{ℕ, suc, _-_}
+use native.Mathlib.Omega.{arith}
+use mathlib.Core.Path.{_≡_, sym, ap, _∙_}
+use mathlib.Core.Bool.{Bool, true, false}
+use mathlib.Core.List.{List, _++_}
+use lib.ListN.{length, drop}
+use mir.Syntax.{w32}
+use mir.Val.{Fits}
+use Rattle.geometry.specs.declared.Point.{Point}
+use Rattle.geometry.specs.declared.Rectangle.{Rectangle}
+use Rattle.characters.specs.declared.Cursor.{Cursor}
+use Rattle.characters.specs.declared.Step as Characters
+use Rattle.characters.specs.declared.Step.the-variants.{Character, IllFormed, End}
+use Rattle.characters.specs.Refusal.{unlessRefused}
+use Rattle.characters.specs.Utf8.{stepAt}
+use Rattle.mapping.specs.Entries.{WithinLimit}
+use Rattle.mapping.specs.Mapping.{index, contains}
+use Rattle.line.specs.declared.MonoFont.{MonoFont}
+use Rattle.sheet.specs.Fields.{frameWidth, frameHeight, fontAt, mappingBytes}
+use Rattle.sheet.specs.Records.{monoFont, font}
+use Rattle.drawing.proofs.Readings.{mapping-limit}
+use Rattle.station.specs.declared.Number.{Number}
+use Rattle.station.specs.declared.Position.{Position}
+use Rattle.station.specs.declared.Box.{Box}
+use Rattle.station.specs.declared.Step.{Step}
+use Rattle.station.specs.Page.{pageHeader, netpbm}
+use Rattle.station.specs.Room.{PageFits}
+use Rattle.station.specs.Calls.{numberReply, positionReply, boxReply, yesNo, fontCode, indexReply, containsReply, pageCode, pageReply, pageOutput, stepReply, walkReply}
+use Rattle.station.specs.Replies.{refusedNumber, refusedPosition, refusedBox}
+use Rattle.station.proofs.Pages.{length-page-le}
+use Rattle.station.proofs.Refusals.{font-listed, page-framed, page-accepted, page-in}
+
+-- ---- a refused call, and one that is not: n is the code
+
+positive : (n : ℕ) → (n ≡ 0 → ⊥) → n ≡ suc (n - 1)
+positive n h = omega arith
+
+module _ (n code : ℕ) (e : n ≡ code) where
+  pub kept : {A : Type 0} (good before : A) → (n ≡ 0 → ⊥) → before ≡ unlessRefused code good before
+  kept good before h = rw (← e, positive n h)
+
+  pub done : {A : Type 0} (r good before : A) → n ≡ 0 → r ≡ good → r ≡ unlessRefused code good before
+  done r good before z q = rw (← e, z) q
+
+  pub number-refused : (r : Number) (v : ℕ) → (n ≡ 0 → ⊥) → r ≡ refusedNumber n → r ≡ numberReply code v
+  unfolding numberReply
+  number-refused r v h q = q ∙ rw (← e, positive n h)
+
+  pub position-refused : (r : Position) (p : Point) → (n ≡ 0 → ⊥) → r ≡ refusedPosition n → r ≡ positionReply code p
+  unfolding positionReply
+  position-refused r p h q = q ∙ rw (← e, positive n h)
+
+  pub box-refused : (r : Box) (a : Rectangle) → (n ≡ 0 → ⊥) → r ≡ refusedBox n → r ≡ boxReply code a
+  unfolding boxReply
+  box-refused r a h q = q ∙ rw (← e, positive n h)
+
+  pub number-done : (value v : ℕ) → n ≡ 0 → value ≡ v → _≡_ {A = Number} (record { code = 0; value = value }) (numberReply code v)
+  unfolding numberReply
+  number-done value v z q = rw (← e, z, q)
+
+  pub position-done : (r : Position) (p q : Point) → n ≡ 0 → r ≡ positionReply 0 p → p ≡ q → r ≡ positionReply code q
+  position-done r p q z h d = rw (← e, z, ← d) h
+
+  pub box-done : (r : Box) (a d : Rectangle) → n ≡ 0 → r ≡ boxReply 0 a → a ≡ d → r ≡ boxReply code d
+  box-done r a d z q f = rw (← e, z, ← f) q
+
+-- ---- station_index, station_contains
+
+module _ (b : List ℕ) (k n : ℕ) (e : n ≡ fontCode b k) (z : n ≡ 0) (m : List ℕ) (em : m ≡ mappingBytes b (fontAt k)) where
+  pub mapping-within : WithinLimit m
+  mapping-within = mapping-limit b k k m (font-listed b n z k e) em
+
+  pub index-done : (mono : MonoFont) (ch r : ℕ) → mono ≡ monoFont b (fontAt k) → r ≡ index m (mono .«replacement_index») ch → _≡_ {A = Number} (record { code = 0; value = r }) (indexReply b k ch)
+  unfolding indexReply font
+  index-done mono ch r en q = number-done n (fontCode b k) e r _ z (q ∙ rw (em, en))
+
+  pub contains-done : (ch : ℕ) (t : Bool) → t ≡ contains m ch → _≡_ {A = Number} (record { code = 0; value = yesNo t }) (containsReply b k ch)
+  unfolding containsReply font
+  contains-done ch t q = number-done n (fontCode b k) e (yesNo t) _ z (rw (q, em))
+
+  pub contains-yes : (ch : ℕ) (t : Bool) → t ≡ contains m ch → t ≡ true → _≡_ {A = Number} (record { code = 0; value = 1 }) (containsReply b k ch)
+  contains-yes ch t q h = rw h at (contains-done ch t q)
+
+  pub contains-no : (ch : ℕ) (t : Bool) → t ≡ contains m ch → t ≡ false → _≡_ {A = Number} (record { code = 0; value = 0 }) (containsReply b k ch)
+  contains-no ch t q h = rw h at (contains-done ch t q)
+
+-- ---- station_write_page
+
+module _ (b frame output : List ℕ) (n w h : ℕ) (e : n ≡ pageCode b frame output) (z : n ≡ 0) (ew : w ≡ frameWidth b) (eh : h ≡ frameHeight b) where
+  same-page : pageHeader w h ++ frame ≡ netpbm b frame
+  unfolding netpbm
+  same-page = rw (ew, eh)
+
+  pub page-room : PageFits w h frame output
+  page-room =
+      let g = page-accepted b frame n z output e .laid-out .headed in
+      record { width = omega (arith, g .not-wide); height = omega (arith, g .not-high); room = rw same-page (page-in b frame n z output e) }
+
+  module _ (len : ℕ) (el : len ≡ length (pageHeader w h ++ frame)) where
+    pub page-short : Fits w32 len
+    page-short =
+        let f = page-framed b frame n z output e in
+        record { fits = omega (arith, length-page-le w h frame, f .sized, f .accepted .laid-out .headed .area) }
+
+    pub page-replied : _≡_ {A = Number} (record { code = 0; value = len }) (pageReply b frame output)
+    unfolding pageReply
+    page-replied = number-done n (pageCode b frame output) e len _ z (el ∙ ap length same-page)
+
+  pub page-output : (out : List ℕ) → out ≡ (pageHeader w h ++ frame) ++ drop (length (pageHeader w h ++ frame)) output → out ≡ pageOutput b frame output
+  unfolding pageOutput
+  page-output out q = done n (pageCode b frame output) e out _ output z (q ∙ rw same-page)
+
+-- ---- station_walk
+
+module _ (line : List ℕ) (at : ℕ) (s : Characters.Step) (e : s ≡ stepAt line at) where
+  walked : (s′ : Characters.Step) → s ≡ s′ → stepReply at s′ ≡ walkReply line at
+  unfolding walkReply
+  walked s′ q = ap (stepReply at) (sym q ∙ e)
+
+  pub walk-character : (ch : ℕ) (c : Cursor) → s ≡ Character ch c → _≡_ {A = Step} (record { code = 0; ended = 0; character = ch; next = c .at }) (walkReply line at)
+  unfolding stepReply
+  walk-character ch c q = walked (Character ch c) q
+
+  pub walk-ill-formed : s ≡ IllFormed → _≡_ {A = Step} (record { code = 10; ended = 0; character = 0; next = 0 }) (walkReply line at)
+  unfolding stepReply
+  walk-ill-formed q = walked IllFormed q
+
+  pub walk-end : s ≡ End → _≡_ {A = Step} (record { code = 0; ended = 1; character = 0; next = at }) (walkReply line at)
+  unfolding stepReply
+  walk-end q = walked End q

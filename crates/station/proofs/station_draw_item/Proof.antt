@@ -1,0 +1,47 @@
+-- Refused with the call's code; else the item is listed and the frame has the sheet's size.
+use borrow.Author.Needs.{needs}
+use Rattle.station.specs.Calls.{drawItemReply, drawItemFrame}
+use Rattle.station.proofs.Refusals.{draw-item-framed, draw-item-listed}
+use Rattle.station.proofs.Calls.{kept, done, position-refused, position-done}
+use Rattle.station.proofs.Bounds.{item-next-fits}
+use Rattle.station.proofs.station_draw_item.Statement.{statement}
+use Rattle.station.proofs.station_draw_item.Tie as tie
+
+draw-item-code-requires : tie.Need-draw-item-code-requires
+draw-item-code-requires c κs = search needs
+
+refused-position-requires : tie.Need-refused-position-requires
+refused-position-requires c κs = search needs
+
+same-length : tie.Need-same-length
+same-length c = search needs
+
+returns : tie.Need-returns
+unfolding drawItemReply drawItemFrame
+returns c = (search position-refused, search kept)
+
+draw-item-requires : tie.Need-draw-item-requires
+draw-item-requires c κs = (search draw-item-listed, search draw-item-framed)
+
+position-reply-requires : tie.Need-position-reply-requires
+position-reply-requires c κs = search (item-next-fits, draw-item-listed)
+
+same-length-2 : tie.Need-same-length-2
+same-length-2 c = search needs
+
+returns-2 : tie.Need-returns-2
+unfolding drawItemReply drawItemFrame
+returns-2 c = (search position-done, search done)
+
+pub station-draw-item-spec : {M : Type 1} → statement M
+station-draw-item-spec =
+    tie.close
+    (tie.spec
+    draw-item-code-requires
+    refused-position-requires
+    same-length
+    returns
+    draw-item-requires
+    position-reply-requires
+    same-length-2
+    returns-2)

@@ -1,0 +1,117 @@
+-- The lines of a text, found one by one between two line feeds. Assumes nothing.
+use Prim.Native.Nat.{ℕ, suc, _+_, _-_, _≤_, _<_}
+use native.Mathlib.Omega.{arith}
+use native.Mathlib.Numerals.{add-one}
+use mathlib.Core.Path.{_≡_, refl, sym, ap, _∙_}
+use mathlib.Core.Bool.{Bool, true, false, cond}
+use mathlib.Core.List.{List, [], _∷_}
+use lib.ListN.{length, take, drop, getD, drop-of-length-le, length-drop}
+use lib.Seq.{drop-cons, drop-drop, length-take-le}
+use lib.Dec.{eqb}
+use borrow.Author.Tests.{eq-eqb, ne-eqb}
+use Rattle.text.specs.Text.{before, lines}
+use Rattle.text.specs.Lines.{lineLength, lineFrom, either}
+
+-- ---- `line_end`: a turn at position i of the text
+
+module _ (text : List ℕ) (i : ℕ) where
+  feed-here : i < length text → getD text i 0 ≡ 0x0A → lineLength (drop i text) ≡ 0
+  unfolding lineLength
+  feed-here h e = rw (drop-cons text i 0 h, eq-eqb (getD text i 0) 0x0A e)
+
+  feed-later : i < length text → (getD text i 0 ≡ 0x0A → ⊥) → lineLength (drop i text) ≡ suc (lineLength (drop (i + 1) text))
+  unfolding lineLength
+  feed-later h e = rw (add-one i, drop-cons text i 0 h, ne-eqb (getD text i 0) 0x0A e)
+
+  past-text : length text ≤ i → lineLength (drop i text) ≡ 0
+  unfolding lineLength
+  past-text h = rw (drop-of-length-le text h)
+
+  module _ (end : ℕ) (inv : i + lineLength (drop i text) ≡ end) where
+    pub end-here : i < length text → getD text i 0 ≡ 0x0A → i ≡ end
+    end-here h e = omega (arith, feed-here h e)
+
+    pub end-later : i < length text → (getD text i 0 ≡ 0x0A → ⊥) → i + 1 + lineLength (drop (i + 1) text) ≡ end
+    end-later h e = omega (arith, feed-later h e)
+
+    pub end-past : length text ≤ i → i ≡ end
+    end-past h = omega (arith, past-text h)
+
+-- ---- a line, and the lines after it
+
+pub length-to-feed : (t : List ℕ) → lineLength t ≤ length t
+unfolding lineLength
+length-to-feed [] = omega arith
+length-to-feed (c ∷ cs) = go (length-to-feed cs) (eqb c 0x0A)
+  where
+    go : lineLength cs ≤ length cs → (b : Bool) → cond b 0 (suc (lineLength cs)) ≤ length (c ∷ cs)
+    go ih true = omega arith
+    go ih false = omega arith
+
+-- the lines after a line: none without a feed
+pub after : List ℕ → List (List ℕ)
+after [] = []
+after (c ∷ cs) = lines cs
+
+split : (t : List ℕ) → lines t ≡ take (lineLength t) t ∷ after (drop (lineLength t) t)
+unfolding lines lineLength after
+split [] = refl
+split (c ∷ cs) = go (split cs) (eqb c 0x0A)
+  where
+    go : lines cs ≡ take (lineLength cs) cs ∷ after (drop (lineLength cs) cs) → (b : Bool)
+        → cond b ([] ∷ lines cs) (before c (lines cs)) ≡ take (cond b 0 (suc (lineLength cs))) (c ∷ cs) ∷ after (drop (cond b 0 (suc (lineLength cs))) (c ∷ cs))
+    go ih true = refl
+    go ih false = rw ih
+
+-- a text has a first line
+pub lines-first : (t : List ℕ) → lines t ≡ lineFrom t 0 ∷ after (drop (lineLength t) t)
+unfolding lineFrom
+lines-first t = split t
+
+-- the line from `from` to `end`
+pub line-part : (text : List ℕ) (from end : ℕ) → end ≡ from + lineLength (drop from text) → take (end - from) (drop from text) ≡ lineFrom text from
+unfolding lineFrom
+line-part text from end e = let q : end - from ≡ lineLength (drop from text) = omega arith in rw q
+
+module _ (text : List ℕ) (from end : ℕ) (reach : from ≤ length text) (e : end ≡ from + lineLength (drop from text)) where
+  pub end-reach : end ≤ length text
+  end-reach = omega (arith, length-to-feed (drop from text), length-drop from text)
+
+  split-at : lines (drop from text) ≡ lineFrom text from ∷ after (drop end text)
+  unfolding lineFrom
+  split-at = rw (split (drop from text), drop-drop (lineLength (drop from text)) from text, ← e)
+
+  pub lines-last : length text ≤ end → lines (drop from text) ≡ lineFrom text from ∷ []
+  unfolding after
+  lines-last h = split-at ∙ ap (λ (l : List ℕ). lineFrom text from ∷ after l) (drop-of-length-le text h)
+
+  pub lines-more : end < length text → lines (drop from text) ≡ lineFrom text from ∷ lines (drop (end + 1) text)
+  unfolding after
+  lines-more h = split-at ∙ ap (λ (l : List ℕ). lineFrom text from ∷ after l) (drop-cons text end 0 h) ∙ ap (λ (n : ℕ). lineFrom text from ∷ lines (drop n text)) (sym (add-one end))
+
+  pub line-less : end < length text → length text - (end + 1) < length text - from
+  line-less h = omega arith
+
+-- a line is as long as it is from its start to its end
+pub length-line-from : (text : List ℕ) (from : ℕ) → length (lineFrom text from) ≡ lineLength (drop from text)
+unfolding lineFrom
+length-line-from text from = length-take-le (lineLength (drop from text)) (drop from text) (length-to-feed (drop from text))
+
+pub end-of-line : (text row : List ℕ) (from : ℕ) → row ≡ lineFrom text from → from + length row ≡ from + lineLength (drop from text)
+end-of-line text row from e = ap (λ (n : ℕ). from + n) (ap length e ∙ length-line-from text from)
+
+-- ---- `line_of`: `chosen` is the text that the line is a part of
+
+module _ (stored new : List ℕ) (t : Bool) where
+  pub either-new : t ≡ true → either stored new t ≡ new
+  either-new e = rw e
+
+  pub either-stored : t ≡ false → either stored new t ≡ stored
+  either-stored e = rw e
+
+module _ (text chosen : List ℕ) (from end : ℕ) (e : chosen ≡ text) (d : end ≡ from + lineLength (drop from text)) where
+  pub chosen-end : from ≤ length chosen → end ≤ length text
+  chosen-end h = end-reach text from end (rw e at h) d
+
+  pub chosen-line : take (end - from) (drop from text) ≡ lineFrom chosen from
+  chosen-line = rw e (line-part text from end d)

@@ -1,0 +1,77 @@
+-- `draw` meets its contract: at each line the lines before it are drawn, and those from it on make up the rest. Assumes nothing.
+use Prim.Native.Nat.{_-_}
+use lib.ListN.{length}
+use borrow.Author.Needs.{needs}
+use Rattle.line.specs.Line.{fontOf}
+use Rattle.text.proofs.Feeds.{end-reach, line-part, line-less}
+use Rattle.text.proofs.Places.{line-limits, at-fits}
+use Rattle.text.proofs.Drawing.{LinesDrawn, lines-start, lines-step, draw-last, next-last}
+use Rattle.text.proofs.draw.Statement.{statement}
+use Rattle.text.proofs.draw.Tie as tie
+
+abbrev Inv-loop : tie.InvT-loop
+Inv-loop frame₀ fw fh clip atlas mapping text font style text-style x y height from₀ at₀ frame from at =
+    LinesDrawn fw clip (fontOf font atlas mapping) text x y style text-style frame₀ from at frame
+
+abbrev μ-loop : tie.MeasureT-loop
+μ-loop frame₀ fw fh clip atlas mapping text font style text-style x y height from₀ at₀ frame from at =
+    length text - from
+
+line-height-requires : tie.Need-line-height-requires Inv-loop μ-loop
+line-height-requires c κs = search needs
+
+loop-holds : tie.Need-loop-holds Inv-loop μ-loop
+loop-holds c = search lines-start
+
+line-end-requires : tie.Need-line-end-requires Inv-loop μ-loop
+line-end-requires c κs = search needs
+
+sub-draw-line : tie.Need-sub-draw-line Inv-loop μ-loop
+sub-draw-line c = search needs
+
+part-draw-line-start : tie.Need-part-draw-line-start Inv-loop μ-loop
+part-draw-line-start c = search needs
+
+part-draw-line-end : tie.Need-part-draw-line-end Inv-loop μ-loop
+part-draw-line-end c = search end-reach
+
+draw-line-requires : tie.Need-draw-line-requires Inv-loop μ-loop
+draw-line-requires c κs = (search needs, (search needs, (search needs, search (line-limits, line-part))))
+
+same-length : tie.Need-same-length Inv-loop μ-loop
+same-length c = search needs
+
+returns : tie.Need-returns Inv-loop μ-loop
+returns c = (search draw-last, search next-last)
+
+add-from : tie.Need-add-from Inv-loop μ-loop
+add-from c = search needs
+
+add-at : tie.Need-add-at Inv-loop μ-loop
+add-at c = search at-fits
+
+loop-less : tie.Need-loop-less Inv-loop μ-loop
+loop-less c = search line-less
+
+loop-again : tie.Need-loop-again Inv-loop μ-loop
+loop-again c = search lines-step
+
+pub draw-spec : {M : Type 1} → statement M
+draw-spec =
+    tie.close
+    (tie.spec
+    Inv-loop
+    μ-loop
+    line-height-requires
+    loop-holds
+    line-end-requires
+    sub-draw-line
+    part-draw-line-start
+    part-draw-line-end
+    draw-line-requires
+    same-length
+    returns
+    add-from
+    add-at
+    loop-less
+    loop-again)
