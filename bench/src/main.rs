@@ -16,7 +16,7 @@ use embedded_graphics::Drawable;
 use oracle::fields::{Font, Header, Item};
 use oracle::frame::RowFrame;
 use oracle::model::SheetModel;
-use oracle::reply::Edit;
+use oracle::reply::{Area, Edit};
 use oracle::sheet::{glyph_mapping, mono_font, text, GreyText};
 use oracle::Station;
 use std::hint::black_box;
@@ -108,21 +108,32 @@ fn draw_pages(station: &dyn Station) {
     }
 }
 
+/// An edit that gives one of two texts of 32 characters by turns.
+fn by_turns<'a>(mut edit: impl FnMut(Edit) -> Area + 'a) -> impl FnMut() + 'a {
+    let texts = [pages::letters(100, 32), pages::letters(101, 32)];
+    let mut number = 0;
+    move || {
+        number ^= 1;
+        assert_eq!(edit(Edit::Text(&texts[number])).code, 0);
+    }
+}
+
 fn edit_page(station: &dyn Station) {
+    const LINE: u32 = 31;
     let model = pages::lines(1);
-    let mut sheet = model.encode();
-    let fresh = sheet.clone();
+    let fresh = model.encode();
+    let [mut sheet, mut alone] = [fresh.clone(), fresh.clone()];
+    let mut outside = pages::lines(1);
+    outside.items[LINE as usize].x = 2_000;
+    let mut outside = outside.encode();
     let mut frame = vec![0; model.area()];
     let mut page = frame.clone();
-    let texts = [pages::letters(100, 32), pages::letters(101, 32)];
+    let mut outside_page = frame.clone();
     station.draw(&sheet, &mut frame);
-    let mut number = 0;
-    let [edited, drawn, checked] = best([
-        &mut || {
-            number ^= 1;
-            let area = station.edit(&mut sheet, &mut frame, 31, Edit::Text(&texts[number]));
-            debug_assert_eq!(area.code, 0);
-        },
+    let [edited, unseen, on_sheet, drawn, checked] = best([
+        &mut by_turns(|edit| station.edit(&mut sheet, &mut frame, LINE, edit)),
+        &mut by_turns(|edit| station.edit(&mut outside, &mut outside_page, LINE, edit)),
+        &mut by_turns(|edit| station.edit_on_sheet(&mut alone, LINE, edit)),
         &mut || {
             station.draw(black_box(&fresh), black_box(&mut page));
         },
@@ -136,10 +147,18 @@ fn edit_page(station: &dyn Station) {
         edited / drawn
     );
     println!(
-        "  the check {checked:.0}: {:.0} % of the edit, {:.0} % of the drawing",
+        "  the check {checked:.0}: {:.0} % of the edit, {:.1} % of the drawing",
         100.0 * checked / edited,
         100.0 * checked / drawn
     );
+    println!(
+        "  the new text and its damage rectangle {:.0}, the ink boxes of all items {:.0}, painting {:.0}",
+        on_sheet - checked,
+        unseen - on_sheet,
+        edited - unseen
+    );
+    station.draw(&sheet, &mut page);
+    assert!(frame == page, "the edited page is not the fresh one");
 }
 
 fn index(station: &dyn Station, name: &str, model: &SheetModel, character: char) {
