@@ -1,0 +1,38 @@
+//! Times of several contenders in one run: interleaved, the best of several rounds.
+
+use std::time::{Duration, Instant};
+
+/// How long one sample of a contender lasts, at least.
+const SAMPLE: Duration = Duration::from_micros(400);
+
+/// How often each contender is measured.
+const ROUNDS: usize = 60;
+
+/// What is measured.
+pub type Contender<'a> = &'a mut dyn FnMut();
+
+fn sample(contender: &mut dyn FnMut(), times: u32) -> Duration {
+    let start = Instant::now();
+    for _ in 0..times {
+        contender();
+    }
+    start.elapsed()
+}
+
+/// Nanoseconds of each contender, the best of all rounds.
+pub fn best<const N: usize>(mut contenders: [Contender; N]) -> [f64; N] {
+    let mut times = [1_u32; N];
+    for (contender, times) in contenders.iter_mut().zip(&mut times) {
+        while sample(contender, *times) < SAMPLE {
+            *times *= 2;
+        }
+    }
+    let mut best = [f64::INFINITY; N];
+    for _ in 0..ROUNDS {
+        for at in 0..N {
+            let elapsed = sample(contenders[at], times[at]);
+            best[at] = best[at].min(elapsed.as_nanos() as f64 / f64::from(times[at]));
+        }
+    }
+    best
+}

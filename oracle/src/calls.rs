@@ -1,0 +1,243 @@
+//! Every call of the host: the check, the call's own refusals, and the answer, over a painter.
+
+use crate::characters::decode;
+use crate::check::check;
+use crate::edits::{damage, make, refusal, Rect};
+use crate::fields::Header;
+use crate::reply::{Area, Edit, Number, Position, Station, Step};
+
+/// Who paints and measures on an accepted sheet and a frame of its size.
+pub trait Painter {
+    /// Paints an item; its next position.
+    fn draw_item(&self, sheet: &[u8], frame: &mut [u8], item: usize) -> (i32, i32);
+    /// Paints whitespace at an item; the next position.
+    fn draw_whitespace(
+        &self,
+        sheet: &[u8],
+        frame: &mut [u8],
+        item: usize,
+        width: u32,
+    ) -> (i32, i32);
+    /// Makes the fresh drawing.
+    fn draw(&self, sheet: &[u8], frame: &mut [u8]);
+    /// An item's measured box.
+    fn bounding_box(&self, sheet: &[u8], item: usize) -> Rect;
+    /// An item's ink box, if one of its lines has one.
+    fn ink_box(&self, sheet: &[u8], item: usize) -> Option<Rect>;
+    /// A character's index.
+    fn index(&self, sheet: &[u8], font: usize, character: u32) -> u32;
+    /// Whether a character is listed.
+    fn contains(&self, sheet: &[u8], font: usize, character: u32) -> bool;
+}
+
+/// The calls over a painter. "Tests 1 to 5 first; .. then the call's own, rising."
+#[derive(Debug, Clone, Copy)]
+pub struct Calls<P>(pub P);
+
+fn accepted(sheet: &[u8]) -> Result<Header, u32> {
+    match check(sheet) {
+        0 => Ok(Header::read(sheet)),
+        code => Err(code),
+    }
+}
+
+// 11: "frame length not width × height".
+fn framed(header: &Header, frame: &[u8]) -> Result<(), u32> {
+    if frame.len() == header.area() {
+        Ok(())
+    } else {
+        Err(11)
+    }
+}
+
+// 12: "no such item or font".
+fn numbered(number: u32, count: u32) -> Result<usize, u32> {
+    if number < count {
+        Ok(number as usize)
+    } else {
+        Err(12)
+    }
+}
+
+/// The page's header: "`P5`, feed, width, blank, height, feed, `255`, feed".
+pub fn page_header(width: u32, height: u32) -> Vec<u8> {
+    format!("P5\n{width} {height}\n255\n").into_bytes()
+}
+
+impl<P: Painter> Calls<P> {
+    fn position(
+        &self,
+        sheet: &[u8],
+        frame: &mut [u8],
+        item: u32,
+        width: Option<u32>,
+    ) -> Result<(i32, i32), u32> {
+        let header = accepted(sheet)?;
+        framed(&header, frame)?;
+        let item = numbered(item, header.items)?;
+        match width {
+            None => Ok(self.0.draw_item(sheet, frame, item)),
+            // 18: "whitespace above 65,535".
+            Some(width) if width > 65_535 => Err(18),
+            Some(width) => Ok(self.0.draw_whitespace(sheet, frame, item, width)),
+        }
+    }
+
+    fn edited(
+        &self,
+        sheet: &mut [u8],
+        frame: Option<&mut [u8]>,
+        item: u32,
+        edit: Edit,
+    ) -> Result<Rect, u32> {
+        let header = accepted(sheet)?;
+        if let Some(frame) = &frame {
+            framed(&header, frame)?;
+        }
+        let item = numbered(item, header.items)?;
+        match refusal(sheet, item, edit) {
+            0 => {}
+            code => return Err(code),
+        }
+        let before = self.0.ink_box(sheet, item);
+        make(sheet, item, edit);
+        let after = self.0.ink_box(sheet, item);
+        let rect = damage(before, after, &header);
+        if let Some(frame) = frame {
+            self.repaint(sheet, frame, &header, &rect);
+        }
+        Ok(rect)
+    }
+
+    // "inside document 01's rectangle stands the fresh drawing of the edited sheet, outside it each
+    // pixel keeps its grey" (demand 3).
+    fn repaint(&self, sheet: &[u8], frame: &mut [u8], header: &Header, rect: &Rect) {
+        let mut fresh = vec![0; frame.len()];
+        self.0.draw(sheet, &mut fresh);
+        for row in rect.top as usize..rect.top as usize + rect.height as usize {
+            let start = row * header.width as usize + rect.left as usize;
+            let columns = start..start + rect.width as usize;
+            frame[columns.clone()].copy_from_slice(&fresh[columns]);
+        }
+    }
+}
+
+fn number(answer: Result<u32, u32>) -> Number {
+    match answer {
+        Ok(value) => Number { code: 0, value },
+        Err(code) => Number::refused(code),
+    }
+}
+
+fn position(answer: Result<(i32, i32), u32>) -> Position {
+    match answer {
+        Ok((x, y)) => Position { code: 0, x, y },
+        Err(code) => Position::refused(code),
+    }
+}
+
+fn area(answer: Result<Rect, u32>) -> Area {
+    match answer {
+        Ok(rect) => Area {
+            code: 0,
+            left: rect.left,
+            top: rect.top,
+            width: rect.width,
+            height: rect.height,
+        },
+        Err(code) => Area::refused(code),
+    }
+}
+
+impl<P: Painter> Station for Calls<P> {
+    fn check(&self, sheet: &[u8]) -> u32 {
+        check(sheet)
+    }
+
+    fn index(&self, sheet: &[u8], font: u32, character: u32) -> Number {
+        number(accepted(sheet).and_then(|header| {
+            let font = numbered(font, header.fonts)?;
+            Ok(self.0.index(sheet, font, character))
+        }))
+    }
+
+    fn contains(&self, sheet: &[u8], font: u32, character: u32) -> Number {
+        number(accepted(sheet).and_then(|header| {
+            let font = numbered(font, header.fonts)?;
+            Ok(u32::from(self.0.contains(sheet, font, character)))
+        }))
+    }
+
+    fn bounding_box(&self, sheet: &[u8], item: u32) -> Area {
+        area(accepted(sheet).and_then(|header| {
+            let item = numbered(item, header.items)?;
+            Ok(self.0.bounding_box(sheet, item))
+        }))
+    }
+
+    fn draw_item(&self, sheet: &[u8], frame: &mut [u8], item: u32) -> Position {
+        position(self.position(sheet, frame, item, None))
+    }
+
+    fn draw_whitespace(&self, sheet: &[u8], frame: &mut [u8], item: u32, width: u32) -> Position {
+        position(self.position(sheet, frame, item, Some(width)))
+    }
+
+    fn draw(&self, sheet: &[u8], frame: &mut [u8]) -> u32 {
+        let ready = accepted(sheet).and_then(|header| framed(&header, frame));
+        match ready {
+            Ok(()) => {
+                self.0.draw(sheet, frame);
+                0
+            }
+            Err(code) => code,
+        }
+    }
+
+    fn edit(&self, sheet: &mut [u8], frame: &mut [u8], item: u32, edit: Edit) -> Area {
+        area(self.edited(sheet, Some(frame), item, edit))
+    }
+
+    fn edit_on_sheet(&self, sheet: &mut [u8], item: u32, edit: Edit) -> Area {
+        area(self.edited(sheet, None, item, edit))
+    }
+
+    fn write_page(&self, sheet: &[u8], frame: &[u8], output: &mut [u8]) -> Number {
+        number(accepted(sheet).and_then(|header| {
+            framed(&header, frame)?;
+            let mut page = page_header(header.width, header.height);
+            page.extend_from_slice(frame);
+            // 17: "output shorter than the page".
+            if output.len() < page.len() {
+                return Err(17);
+            }
+            output[..page.len()].copy_from_slice(&page);
+            Ok(page.len() as u32)
+        }))
+    }
+
+    // "at or past its end it says so and keeps the offset, otherwise it gives character and next
+    // offset, or 10".
+    fn walk(&self, line: &[u8], offset: usize) -> Step {
+        if offset >= line.len() {
+            return Step {
+                code: 0,
+                ended: 1,
+                character: 0,
+                next: offset,
+            };
+        }
+        match decode(line, offset) {
+            Some((character, next)) => Step {
+                code: 0,
+                ended: 0,
+                character,
+                next,
+            },
+            None => Step {
+                code: 10,
+                ..Step::default()
+            },
+        }
+    }
+}

@@ -1,0 +1,408 @@
+//! Answers with one known mistake each, to see that the comparison finds it: document 01's traps,
+//! what its reviewer tries, and slips at the limits.
+
+use crate::calls::{Calls, Painter};
+use crate::check::check;
+use crate::edits::{damage, Rect};
+use crate::fields::{Font, Header, Item};
+use crate::model::{FontModel, ItemModel, SheetModel};
+use crate::plain::Plain;
+use crate::reply::{Area, Edit, Number, Position, Station, Step};
+
+macro_rules! faults {
+    ($($(#[$note:meta])* $name:ident,)*) => {
+        /// A mistake.
+        #[derive(Debug, Clone, Copy, PartialEq, Eq)]
+        pub enum Fault {
+            $($(#[$note])* $name,)*
+        }
+
+        /// Every mistake.
+        pub const FAULTS: &[Fault] = &[$(Fault::$name,)*];
+    };
+}
+
+faults! {
+    /// The control: no mistake, and nothing may be found.
+    None,
+    WholePageRepainted,
+    NothingRepainted,
+    OnlyTheItemRepainted,
+    MeasuredBoxAsInk,
+    DamageNotCut,
+    DamageCutBeforeJoining,
+    ReturnDroppedBeforeMeasuring,
+    CentreRoundedDown,
+    MiddleRoundedUp,
+    BaselineOfBottomForAlphabetic,
+    PercentRoundedUp,
+    TrailingSpacingLeftOut,
+    BackgroundUnderMissingGlyphs,
+    UnderlineBeforeStrikethrough,
+    NextPositionIn16Bits,
+    EmptyBoxAligned,
+    SurrogatesCounted,
+    LastPositionAsIndex,
+    RangeFromZeroStops,
+    SpareAtlasRowCounted,
+    SlotTailNotChecked,
+    TextBeforeSlotTail,
+    LimitOneLess,
+    SumsIn32Bits,
+    OwnRefusalsFalling,
+    FrameTouchedWhenRefused,
+    PlaceCutTo16Bits,
+    UnusedGreysCleared,
+    OldTextLeftInSlot,
+    OutputClearedPastThePage,
+    WalkerOffsetMovedToTheEnd,
+}
+
+/// Document 01's answers with one mistake.
+pub struct Faulty(pub Fault);
+
+const GOOD: Calls<Plain> = Calls(Plain);
+
+fn without_returns(text: &[u8]) -> Vec<u8> {
+    let lines: Vec<&[u8]> = text
+        .split(|byte| *byte == b'\n')
+        .map(|line| line.strip_suffix(b"\r").unwrap_or(line))
+        .collect();
+    lines.join(&b'\n')
+}
+
+impl Faulty {
+    fn change_font(&self, font: &mut FontModel) {
+        let cell = usize::from(font.character_height);
+        let row = usize::from(font.atlas_width).div_ceil(8);
+        match self.0 {
+            Fault::BackgroundUnderMissingGlyphs => {
+                let whole = row * (font.atlas.len() / row.max(1));
+                font.atlas.truncate(whole);
+                font.atlas.resize(whole + 300 * cell * row, 0);
+            }
+            Fault::SpareAtlasRowCounted if row > 0 => {
+                let rows = font.atlas.len().div_ceil(row);
+                font.atlas.resize(rows * row, 0);
+            }
+            Fault::UnderlineBeforeStrikethrough => {
+                (font.underline, font.strikethrough) = (font.strikethrough, font.underline);
+            }
+            Fault::RangeFromZeroStops => {
+                let stop = font.mapping.windows(2).position(|two| two == [0, 0]);
+                font.mapping.truncate(stop.unwrap_or(font.mapping.len()));
+            }
+            _ => {}
+        }
+    }
+
+    fn change_item(&self, item: &mut ItemModel, font: &FontModel) {
+        match self.0 {
+            Fault::ReturnDroppedBeforeMeasuring => {
+                let text = without_returns(item.text());
+                item.set_text(&text, 0);
+            }
+            Fault::MiddleRoundedUp if item.baseline == 2 && font.character_height % 2 == 0 => {
+                item.y = item.y.wrapping_sub(1);
+            }
+            Fault::BaselineOfBottomForAlphabetic if item.baseline == 3 => item.baseline = 1,
+            Fault::PercentRoundedUp if item.height_kind == 1 => {
+                let height = u16::from(font.character_height) * item.height_value;
+                item.height_kind = 0;
+                item.height_value = height.div_ceil(100);
+            }
+            Fault::UnderlineBeforeStrikethrough => item.style.swap(4, 6),
+            _ => {}
+        }
+        if self.0 == Fault::UnderlineBeforeStrikethrough {
+            item.style.swap(5, 7);
+        }
+    }
+
+    /// The sheet that is drawn by mistake, for an accepted sheet.
+    fn drawn(&self, sheet: &[u8]) -> Vec<u8> {
+        if check(sheet) != 0 {
+            return sheet.to_vec();
+        }
+        let mut model = SheetModel::decode(sheet);
+        for item in &mut model.items {
+            self.change_item(item, &model.fonts[usize::from(item.font)]);
+        }
+        for font in &mut model.fonts {
+            self.change_font(font);
+        }
+        model.encode()
+    }
+
+    fn is_drawing(&self) -> bool {
+        use Fault::*;
+        matches!(
+            self.0,
+            ReturnDroppedBeforeMeasuring
+                | MiddleRoundedUp
+                | BaselineOfBottomForAlphabetic
+                | PercentRoundedUp
+                | BackgroundUnderMissingGlyphs
+                | UnderlineBeforeStrikethrough
+                | SpareAtlasRowCounted
+        )
+    }
+
+    fn next(&self, sheet: &[u8], item: u32, mut next: Position) -> Position {
+        if next.code != 0 {
+            return next;
+        }
+        let item = Item::read(sheet, item as usize);
+        let font = Font::read(sheet, item.font as usize);
+        let text = item.text(sheet);
+        let last = text.rsplit(|byte| *byte == b'\n').next().unwrap_or(text);
+        match self.0 {
+            Fault::NextPositionIn16Bits => next.x = i32::from(next.x as i16),
+            Fault::CentreRoundedDown if item.alignment == 1 && last.is_empty() => next.x += 1,
+            Fault::TrailingSpacingLeftOut
+                if item.text_mode + item.background_mode == 0 && next.x != item.x =>
+            {
+                next.x -= font.spacing as i32;
+            }
+            _ => {}
+        }
+        next
+    }
+
+    // The rectangle that is reported by mistake, from the sheets before and after an edit.
+    fn rectangle(&self, before: &[u8], after: &[u8], item: usize, good: Area) -> Area {
+        let header = Header::read(before);
+        let ink = |sheet: &[u8]| Plain.ink_box(sheet, item);
+        let cut = |rect: Option<Rect>| damage(rect, None, &header).unless_empty();
+        let rect = match self.0 {
+            Fault::MeasuredBoxAsInk => {
+                let measured = |sheet: &[u8]| Plain.bounding_box(sheet, item).unless_empty();
+                damage(measured(before), measured(after), &header)
+            }
+            Fault::DamageNotCut => crate::edits::join(ink(before), ink(after)).unwrap_or_default(),
+            Fault::DamageCutBeforeJoining => damage(cut(ink(before)), cut(ink(after)), &header),
+            _ => return good,
+        };
+        Area {
+            code: 0,
+            left: rect.left,
+            top: rect.top,
+            width: rect.width,
+            height: rect.height,
+        }
+    }
+
+    fn edited(&self, sheet: &mut [u8], item: u32, edit: Edit) -> Area {
+        let before = sheet.to_vec();
+        let edit = match edit {
+            Edit::Place(x, y) if self.0 == Fault::PlaceCutTo16Bits => {
+                Edit::Place(i32::from(x as i16), i32::from(y as i16))
+            }
+            other => other,
+        };
+        let mut area = GOOD.edit_on_sheet(sheet, item, edit);
+        if area.code != 0 {
+            let ill_formed = |text: &[u8]| std::str::from_utf8(text).is_err();
+            let later = [
+                (14, matches!(edit, Edit::Text(text) if ill_formed(text))),
+                (
+                    15,
+                    matches!(edit, Edit::Place(x, _) if x as i16 as i32 != x),
+                ),
+                (16, matches!(edit, Edit::Style(style) if style.len() != 8)),
+            ];
+            area.code = self.falling(area.code, &later);
+            return area;
+        }
+        let record = Item::read(&before, item as usize);
+        match (self.0, edit) {
+            (Fault::UnusedGreysCleared, Edit::Style(style)) => {
+                for mode in [0, 2, 4, 6].into_iter().filter(|mode| style[*mode] == 0) {
+                    sheet[record.at + 13 + mode + 1] = 0;
+                }
+            }
+            (Fault::OldTextLeftInSlot, Edit::Text(text)) => {
+                let start = record.slot_offset as usize;
+                let (first, last) = (start + text.len(), start + record.slot_size as usize);
+                sheet[first..last].copy_from_slice(&before[first..last]);
+            }
+            _ => {}
+        }
+        self.rectangle(&before, sheet, item as usize, area)
+    }
+
+    // A later condition of the call that holds too.
+    fn falling(&self, code: u32, later: &[(u32, bool)]) -> u32 {
+        let holds = |(other, holds): &&(u32, bool)| *holds && *other > code;
+        match later.iter().rev().find(holds) {
+            Some((other, _)) if self.0 == Fault::OwnRefusalsFalling && code > 10 => *other,
+            _ => code,
+        }
+    }
+
+    // Sheets that a mistaken check sees: mended where the mistake does not look.
+    fn checked(&self, sheet: &[u8]) -> u32 {
+        let code = check(sheet);
+        let mut mended = sheet.to_vec();
+        match (self.0, code) {
+            (Fault::SlotTailNotChecked | Fault::TextBeforeSlotTail, 9) => {
+                let header = Header::read(sheet);
+                for item in 0..header.items as usize {
+                    let item = Item::read(sheet, item);
+                    let (start, size) = (item.slot_offset as usize, item.slot_size as usize);
+                    if item.text_length as usize <= size {
+                        mended[start + item.text_length as usize..start + size].fill(0);
+                    }
+                }
+                let other = check(&mended);
+                let kept = self.0 == Fault::TextBeforeSlotTail && other != 10;
+                if kept {
+                    code
+                } else {
+                    other
+                }
+            }
+            (Fault::LimitOneLess, 0) => {
+                let header = Header::read(sheet);
+                let most = (0..header.fonts as usize)
+                    .map(|font| Font::read(sheet, font).atlas_width)
+                    .max();
+                if most == Some(1_024) {
+                    6
+                } else {
+                    0
+                }
+            }
+            (Fault::SumsIn32Bits, 5) => {
+                let first = Font::read_at(&[sheet, &[0; 52]].concat(), 24);
+                let wraps = first.atlas_length > 1 << 31
+                    && first.atlas_offset.wrapping_add(first.atlas_length) == first.mapping_offset;
+                if wraps {
+                    0
+                } else {
+                    5
+                }
+            }
+            (_, code) => code,
+        }
+    }
+}
+
+impl Station for Faulty {
+    fn check(&self, sheet: &[u8]) -> u32 {
+        self.checked(sheet)
+    }
+
+    fn index(&self, sheet: &[u8], font: u32, character: u32) -> Number {
+        let mut index = GOOD.index(sheet, font, character);
+        let listed = GOOD.contains(sheet, font, character).value == 1;
+        if index.code != 0 || !listed {
+            return index;
+        }
+        let record = Font::read(sheet, font as usize);
+        match self.0 {
+            Fault::SurrogatesCounted if character > 0xdfff && record.mapping(sheet)[0] == 0 => {
+                index.value += 2_048;
+            }
+            Fault::LastPositionAsIndex => {
+                let text = String::from_utf8_lossy(record.mapping(sheet)).into_owned();
+                if !text.contains('\0') {
+                    let last = text.chars().rev().position(|c| c as u32 == character);
+                    index.value = (text.chars().count() - 1 - last.unwrap_or(0)) as u32;
+                }
+            }
+            Fault::RangeFromZeroStops => {
+                let mut model = SheetModel::decode(sheet);
+                self.change_font(&mut model.fonts[font as usize]);
+                return GOOD.index(&model.encode(), font, character);
+            }
+            _ => {}
+        }
+        index
+    }
+
+    fn contains(&self, sheet: &[u8], font: u32, character: u32) -> Number {
+        GOOD.contains(sheet, font, character)
+    }
+
+    fn bounding_box(&self, sheet: &[u8], item: u32) -> Area {
+        let mut area = GOOD.bounding_box(sheet, item);
+        if self.0 == Fault::EmptyBoxAligned && area.code == 0 && area.width == 0 {
+            area.left += i32::from(Item::read(sheet, item as usize).alignment == 2);
+        }
+        area
+    }
+
+    fn draw_item(&self, sheet: &[u8], frame: &mut [u8], item: u32) -> Position {
+        let next =
+            if self.is_drawing() && GOOD.draw_item(sheet, &mut frame.to_vec(), item).code == 0 {
+                let drawn = self.drawn(sheet);
+                let (x, y) = Plain.draw_item(&drawn, frame, item as usize);
+                Position { code: 0, x, y }
+            } else {
+                GOOD.draw_item(sheet, frame, item)
+            };
+        if self.0 == Fault::FrameTouchedWhenRefused && next.code == 12 {
+            frame[0] ^= 1;
+        }
+        self.next(sheet, item, next)
+    }
+
+    fn draw_whitespace(&self, sheet: &[u8], frame: &mut [u8], item: u32, width: u32) -> Position {
+        let mut next = GOOD.draw_whitespace(sheet, frame, item, width);
+        next.code = self.falling(next.code, &[(18, width > 65_535)]);
+        next
+    }
+
+    fn draw(&self, sheet: &[u8], frame: &mut [u8]) -> u32 {
+        GOOD.draw(sheet, frame)
+    }
+
+    fn edit(&self, sheet: &mut [u8], frame: &mut [u8], item: u32, edit: Edit) -> Area {
+        let mut before = sheet.to_vec();
+        let mut good = frame.to_vec();
+        let area = GOOD.edit(&mut before.clone(), &mut good, item, edit);
+        let reply = if area.code == 11 {
+            area
+        } else {
+            self.edited(sheet, item, edit)
+        };
+        if reply.code != 0 {
+            return reply;
+        }
+        match self.0 {
+            Fault::WholePageRepainted => Plain.draw(sheet, frame),
+            Fault::NothingRepainted => {}
+            Fault::OnlyTheItemRepainted => {
+                let mut alone = SheetModel::decode(&before);
+                alone.items = vec![alone.items[item as usize].clone()];
+                GOOD.edit(&mut alone.encode(), frame, 0, edit);
+            }
+            _ => {
+                GOOD.edit(&mut before, frame, item, edit);
+            }
+        }
+        reply
+    }
+
+    fn edit_on_sheet(&self, sheet: &mut [u8], item: u32, edit: Edit) -> Area {
+        self.edited(sheet, item, edit)
+    }
+
+    fn write_page(&self, sheet: &[u8], frame: &[u8], output: &mut [u8]) -> Number {
+        let mut page = GOOD.write_page(sheet, frame, output);
+        page.code = self.falling(page.code, &[(17, output.is_empty())]);
+        if self.0 == Fault::OutputClearedPastThePage && page.code == 0 {
+            output[page.value as usize..].fill(0);
+        }
+        page
+    }
+
+    fn walk(&self, line: &[u8], offset: usize) -> Step {
+        let mut step = GOOD.walk(line, offset);
+        if self.0 == Fault::WalkerOffsetMovedToTheEnd && step.ended == 1 {
+            step.next = line.len();
+        }
+        step
+    }
+}

@@ -1,0 +1,21 @@
+//! Stand-in for src/draw_target/cropped.rs: named by src/draw_target/mod.rs; no text is drawn with it.
+
+use crate::primitives::Rectangle;
+
+/// A part of a target.
+#[derive(Debug)]
+pub struct Cropped<'a, T> {
+    /// The target.
+    pub parent: &'a mut T,
+    /// The part.
+    pub area: Rectangle,
+}
+
+impl<'a, T> Cropped<'a, T> {
+    pub(super) fn new(parent: &'a mut T, area: &Rectangle) -> Self {
+        Self {
+            parent,
+            area: *area,
+        }
+    }
+}
