@@ -86,7 +86,7 @@ fn strange_grey(i: usize, shift: usize) -> u8 {
     (((i % 251) * 37 + shift % 251) % 251) as u8
 }
 
-// Fills a frame with greys that no page has.
+// Fills a frame with greys that change from pixel to pixel.
 fn fill_strange(frame: &mut [u8], shift: usize) {
     let mut i = 0;
     while i < frame.len() {
