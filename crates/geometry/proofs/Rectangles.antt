@@ -110,19 +110,32 @@ pub shared-run : (a n b m from l r shared : ℕ) → from ≡ max a b → l ≡ 
 shared-run a n b m from l r shared ef el er es =
     es ∙ rw (el ∙ past a n from (omega arith), er ∙ past b m from (omega arith), min-minus (a + n) (b + m) from, ef)
 
+-- rectangles made of their edges
+module _ (a b : Rectangle) (l t : ℕ) where
+  pub envelope-made : (r f : ℕ) → l ≡ min (a .left) (b .left) → t ≡ min (a .top) (b .top) → r ≡ max (a .left + a .width) (b .left + b .width) → f ≡ max (a .top + a .height) (b .top + b .height)
+      → _≡_ {A = Rectangle} (record { left = l; top = t; width = r - l; height = f - t }) (envelope a b)
+  unfolding envelope
+  envelope-made r f el et er ef = rw (el, et, er, ef)
+
+  pub intersection-made : (w h : ℕ) → l ≡ max (a .left) (b .left) → t ≡ max (a .top) (b .top) → w ≡ min (a .left + a .width) (b .left + b .width) - max (a .left) (b .left)
+      → h ≡ min (a .top + a .height) (b .top + b .height) - max (a .top) (b .top) → _≡_ {A = Rectangle} (record { left = l; top = t; width = w; height = h }) (intersection a b)
+  unfolding intersection
+  intersection-made w h el et ew eh = rw (el, et, ew, eh)
+
 -- a join, by the tests of emptiness
-module _ (a b : Rectangle) where
-  pub join-second-empty : isEmpty b ≡ true → a ≡ join a b
+module _ (a b : Rectangle) (t : Bool) (et : t ≡ isEmpty b) where
+  pub join-second-empty : t ≡ true → a ≡ join a b
   unfolding join
-  join-second-empty e = rw e
+  join-second-empty h = rw (← et, h)
 
-  pub join-first-empty : isEmpty b ≡ false → isEmpty a ≡ true → b ≡ join a b
-  unfolding join
-  join-first-empty e f = rw (e, f)
+  module _ (u : Bool) (eu : u ≡ isEmpty a) (h : t ≡ false) where
+    pub join-first-empty : u ≡ true → b ≡ join a b
+    unfolding join
+    join-first-empty k = rw (← et, h, ← eu, k)
 
-  pub join-neither-empty : isEmpty b ≡ false → isEmpty a ≡ false → envelope a b ≡ join a b
-  unfolding join
-  join-neither-empty e f = rw (e, f)
+    pub join-neither-empty : (r : Rectangle) → u ≡ false → r ≡ envelope a b → r ≡ join a b
+    unfolding join
+    join-neither-empty r k q = rw (← et, h, ← eu, k) q
 
 -- what is made of two rectangles whose ends fit has ends that fit
 module _ (a b : Rectangle) (fa : EndsFit a) (fb : EndsFit b) where

@@ -5,13 +5,20 @@ use mathlib.Core.List.{List}
 use lib.ListN.{length, getD, take, drop}
 use lib.Seq.{getD-take, getD-drop}
 use native.Mathlib.Omega.{arith}
+use Rattle.geometry.specs.declared.OptionalGrey.{OptionalGrey}
+use Rattle.geometry.specs.declared.Point.{Point}
+use Rattle.line.specs.declared.Baseline.{Baseline}
+use Rattle.line.specs.declared.DecorationColor.{DecorationColor}
 use Rattle.line.specs.declared.MonoFont.{MonoFont}
 use Rattle.line.specs.declared.MonoTextStyle.{MonoTextStyle}
 use Rattle.line.specs.Limits.{FontLimits}
+use Rattle.text.specs.declared.Alignment.{Alignment}
+use Rattle.text.specs.declared.LineHeight.{LineHeight}
+use Rattle.text.specs.declared.TextStyle.{TextStyle}
 use Rattle.sheet.specs.Fields
-use Rattle.sheet.specs.Fields.{u16, u32, fontAt, itemAt}
+use Rattle.sheet.specs.Fields.{u16, u32, coordinate, fontAt, itemAt}
 use Rattle.sheet.specs.Requires.{FontListed, ItemListed}
-use Rattle.sheet.specs.Records.{monoFont, monoTextStyle, styleOf}
+use Rattle.sheet.specs.Records.{optionalGrey, decorationColor, alignment, baseline, lineHeight, monoFont, monoTextStyle, styleOf, textStyle, itemOf}
 
 -- ---- pieces lie in the file
 
@@ -66,3 +73,32 @@ style-is b n o r e p =
       at 6 (itemAt b n + 19) (omega arith) (omega arith),
       at 7 (itemAt b n + 20) (omega arith) (omega arith),
     )
+
+pub style-made : (b : List ℕ) (t g : OptionalGrey) (u s : DecorationColor) → t ≡ optionalGrey (getD b 0 0) (getD b 1 0) → g ≡ optionalGrey (getD b 2 0) (getD b 3 0)
+    → u ≡ decorationColor (getD b 4 0) (getD b 5 0) → s ≡ decorationColor (getD b 6 0) (getD b 7 0)
+    → _≡_ {A = MonoTextStyle} (record { «text_color» = t; «background_color» = g; «underline_color» = u; «strikethrough_color» = s }) (styleOf b)
+unfolding styleOf
+style-made b t g u s et eg eu es = rw (et, eg, eu, es)
+
+module _ (b : List ℕ) (n o : ℕ) (e : o ≡ itemAt b n) where
+  pub text-style-made : (a : Alignment) (l : Baseline) (h : LineHeight) (v : ℕ) → a ≡ alignment (getD b (o + 21) 0) → l ≡ baseline (getD b (o + 22) 0) → v ≡ u16 b (o + 24)
+      → h ≡ lineHeight (getD b (o + 23) 0) v → _≡_ {A = TextStyle} (record { alignment = a; baseline = l; «line_height» = h }) (textStyle b (itemAt b n))
+  unfolding textStyle
+  text-style-made a l h v ea el ev eh = rw (ea, el, eh, ev, e)
+
+  pub position-made : (i j x y : ℕ) → i ≡ u16 b o → x ≡ coordinate i → j ≡ u16 b (o + 2) → y ≡ coordinate j → _≡_ {A = Point} (record { x = x; y = y }) (itemOf b (itemAt b n) .position)
+  unfolding itemOf
+  position-made i j x y ei ex ej ey = rw (ex, ei, ey, ej, e)
+
+pub font-made : (b : List ℕ) (n o w cw ch r s base so sh uo uh : ℕ) → o ≡ fontAt n → w ≡ u16 b (o + 16) → cw ≡ getD b (o + 18) 0 → ch ≡ getD b (o + 19) 0 → r ≡ u16 b (o + 14) → s ≡ getD b (o + 20) 0
+    → base ≡ getD b (o + 21) 0 → so ≡ getD b (o + 22) 0 → sh ≡ getD b (o + 23) 0 → uo ≡ getD b (o + 24) 0 → uh ≡ getD b (o + 25) 0
+    → _≡_ {A = MonoFont} (record {
+      atlas = record { width = w; «cell_size» = record { width = cw; height = ch } };
+      «replacement_index» = r;
+      «character_spacing» = s;
+      baseline = base;
+      strikethrough = record { offset = so; height = sh };
+      underline = record { offset = uo; height = uh };
+    }) (monoFont b (fontAt n))
+unfolding monoFont
+font-made b n o w cw ch r s base so sh uo uh e ew ecw ech er es eb eso esh euo euh = rw (ew, ecw, ech, er, es, eb, eso, esh, euo, euh, e)

@@ -1,8 +1,7 @@
 -- Each number is read where the record stores it. Assumes nothing.
 use borrow.Author.Needs.{needs}
 use native.Mathlib.Omega.{arith}
-use Rattle.sheet.specs.Records.{monoFont}
-use Rattle.records.proofs.Readings.{font-limits}
+use Rattle.records.proofs.Readings.{font-made, font-limits}
 use Rattle.records.proofs.font_at.Statement.{statement}
 use Rattle.records.proofs.font_at.Tie as tie
 
@@ -76,8 +75,7 @@ u8-at-requires-8 : tie.Need-u8-at-requires-8
 u8-at-requires-8 c κs = search needs
 
 returns : tie.Need-returns
-unfolding monoFont
-returns c = (cc, font-limits _ _ _ (c .before .before .before .before .before .before .before .before .before .before .before .before .pre) (cc) (omega arith) (omega arith) (omega arith) (omega arith) (omega arith))
+returns c = (search font-made, font-limits _ _ _ (c .before .before .before .before .before .before .before .before .before .before .before .before .pre) (search font-made) (omega arith) (omega arith) (omega arith) (omega arith) (omega arith))
 
 pub font-at-spec : {M : Type 1} → statement M
 font-at-spec =

@@ -1,7 +1,7 @@
 -- Each coordinate is read where the record stores it. Assumes nothing.
 use borrow.Author.Needs.{needs}
 use native.Mathlib.Omega.{arith}
-use Rattle.sheet.specs.Records.{itemOf}
+use Rattle.records.proofs.Readings.{position-made}
 use Rattle.records.proofs.position.Statement.{statement}
 use Rattle.records.proofs.position.Tie as tie
 
@@ -30,8 +30,7 @@ coordinate-requires-2 : tie.Need-coordinate-requires-2
 coordinate-requires-2 c κs = search needs
 
 returns : tie.Need-returns
-unfolding itemOf
-returns c = (cc, omega arith)
+returns c = (search position-made, omega arith)
 
 pub position-spec : {M : Type 1} → statement M
 position-spec =

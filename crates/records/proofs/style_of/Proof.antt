@@ -1,6 +1,6 @@
 -- Each mode and grey is read where it stands. Assumes nothing.
 use borrow.Author.Needs.{needs}
-use Rattle.sheet.specs.Records.{styleOf}
+use Rattle.records.proofs.Readings.{style-made}
 use Rattle.records.proofs.style_of.Statement.{statement}
 use Rattle.records.proofs.style_of.Tie as tie
 
@@ -41,8 +41,7 @@ decoration-color-requires-2 : tie.Need-decoration-color-requires-2
 decoration-color-requires-2 c κs = search needs
 
 returns : tie.Need-returns
-unfolding styleOf
-returns c = cc
+returns c = search style-made
 
 pub style-of-spec : {M : Type 1} → statement M
 style-of-spec =

@@ -1,6 +1,6 @@
 -- Each code is read where the record stores it. Assumes nothing.
 use borrow.Author.Needs.{needs}
-use Rattle.sheet.specs.Records.{textStyle}
+use Rattle.records.proofs.Readings.{text-style-made}
 use Rattle.records.proofs.text_style.Statement.{statement}
 use Rattle.records.proofs.text_style.Tie as tie
 
@@ -44,8 +44,7 @@ line-height-requires : tie.Need-line-height-requires
 line-height-requires c κs = search needs
 
 returns : tie.Need-returns
-unfolding textStyle
-returns c = cc
+returns c = search text-style-made
 
 pub text-style-spec : {M : Type 1} → statement M
 text-style-spec =

@@ -1,6 +1,6 @@
 -- `Rectangle::envelope` meets its contract: each edge is the definition's. Assumes nothing.
-use Rattle.geometry.specs.Rectangle.{envelope}
 use borrow.Author.Needs.{needs}
+use Rattle.geometry.proofs.Rectangles.{envelope-made}
 use Rattle.geometry.proofs.Rectangle.envelope.Statement.{statement}
 use Rattle.geometry.proofs.Rectangle.envelope.Tie as tie
 
@@ -35,8 +35,7 @@ sub-t8 : tie.Need-sub-t8
 sub-t8 c = search needs
 
 returns : tie.Need-returns
-unfolding envelope
-returns c = cc
+returns c = search envelope-made
 
 pub envelope-spec : {M : Type 1} → statement M
 envelope-spec =

@@ -1,6 +1,6 @@
 -- `Rectangle::intersection` meets its contract: each edge is the definition's. Assumes nothing.
-use Rattle.geometry.specs.Rectangle.{intersection}
 use borrow.Author.Needs.{needs}
+use Rattle.geometry.proofs.Rectangles.{intersection-made}
 use Rattle.geometry.proofs.Rectangle.intersection.Statement.{statement}
 use Rattle.geometry.proofs.Rectangle.intersection.Tie as tie
 
@@ -17,8 +17,7 @@ shared-requires-2 : tie.Need-shared-requires-2
 shared-requires-2 c κs = search needs
 
 returns : tie.Need-returns
-unfolding intersection
-returns c = cc
+returns c = search intersection-made
 
 pub intersection-spec : {M : Type 1} → statement M
 intersection-spec =
