@@ -31,7 +31,7 @@ use Rattle.records.proofs.Readings.{font-limits, font-listed}
 use Rattle.drawing.specs.Drawing.{pixelCount, whitespaceNext, damage}
 use Rattle.drawing.proofs.Readings.{item-read}
 use Rattle.drawing.proofs.Painting.{damage-canvas}
-use Rattle.station.specs.Replies.{PointFits, CornerFits}
+use Rattle.calls.specs.Replies.{PointFits, CornerFits}
 
 length-lines : (s : List ℕ) → length (lines s) ≤ suc (length s)
 unfolding lines

@@ -20,16 +20,16 @@ use Rattle.line.specs.declared.MonoFont.{MonoFont}
 use Rattle.sheet.specs.Fields.{frameWidth, frameHeight, fontAt, mappingBytes}
 use Rattle.sheet.specs.Records.{monoFont, font}
 use Rattle.drawing.proofs.Readings.{mapping-limit}
-use Rattle.station.specs.declared.Number.{Number}
-use Rattle.station.specs.declared.Position.{Position}
-use Rattle.station.specs.declared.Box.{Box}
-use Rattle.station.specs.declared.Step.{Step}
-use Rattle.station.specs.Page.{pageHeader, netpbm}
-use Rattle.station.specs.Room.{PageFits}
-use Rattle.station.specs.Calls.{numberReply, positionReply, boxReply, yesNo, fontCode, indexReply, containsReply, pageCode, pageReply, pageOutput, stepReply, walkReply}
-use Rattle.station.specs.Replies.{refusedNumber, refusedPosition, refusedBox}
-use Rattle.station.proofs.Pages.{length-page-le}
-use Rattle.station.proofs.Refusals.{font-listed, page-framed, page-accepted, page-in}
+use Rattle.calls.specs.declared.Number.{Number}
+use Rattle.calls.specs.declared.Position.{Position}
+use Rattle.calls.specs.declared.Box.{Box}
+use Rattle.calls.specs.declared.Step.{Step}
+use Rattle.page.specs.Page.{pageHeader}
+use Rattle.page.specs.Room.{PageFits}
+use Rattle.calls.specs.Calls.{netpbm, numberReply, positionReply, boxReply, yesNo, fontCode, indexReply, containsReply, pageCode, pageReply, pageOutput, stepReply, walkReply}
+use Rattle.calls.specs.Replies.{refusedNumber, refusedPosition, refusedBox}
+use Rattle.page.proofs.Pages.{length-page-le}
+use Rattle.calls.proofs.Refusals.{font-listed, page-framed, page-accepted, page-in}
 
 -- ---- a refused call, and one that is not: n is the code
 

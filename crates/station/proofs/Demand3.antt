@@ -19,7 +19,7 @@ use Rattle.sheet.proofs.Acceptance.{accepted}
 use Rattle.sheet.proofs.Unchanged.{same-frameWidth}
 use Rattle.drawing.specs.Drawing.{pixelCount, columnOf, rowOf, page, repainted}
 use Rattle.drawing.proofs.Repainting.{length-page, same-pixelCount, repainted-inside, repainted-outside}
-use Rattle.station.specs.Calls.{boxReply, fits, editDamage, editCode, editReply, editSheet, editFrame}
+use Rattle.calls.specs.Calls.{boxReply, fits, editDamage, editCode, editReply, editSheet, editFrame}
 use Rattle.station.specs.Machine.{Outcome, patchedSheet, patchedFrame, patchedReplies, patchedRun, freshSheet, freshReplies, freshRun, plainStep, plainSheet, plainReplies, plainRun}
 use Rattle.station.proofs.Runs.{draw-zero, draw-page, step-accepted, step-size, on-sheet-sheet, on-sheet-reply, edit-sheet, edit-reply, edit-page}
 

@@ -19,10 +19,10 @@ use Rattle.sheet.proofs.Unchanged.{same-frameWidth, same-frameHeight}
 use Rattle.edits.proofs.Signed.{read}
 use Rattle.drawing.specs.Drawing.{damage, repainted}
 use Rattle.drawing.proofs.Painting.{damage-canvas}
-use Rattle.station.specs.Calls.{editCode, onSheetCode}
-use Rattle.station.specs.Replies.{CornerFits}
-use Rattle.station.proofs.Refusals.{edit-framed, edit-allowed, on-sheet-allowed}
-use Rattle.station.proofs.Signed.{new-place-read, place-code-read, place-on-sheet-code-read}
+use Rattle.calls.specs.Calls.{editCode, onSheetCode}
+use Rattle.calls.specs.Replies.{CornerFits}
+use Rattle.calls.proofs.Refusals.{edit-framed, edit-allowed, on-sheet-allowed}
+use Rattle.calls.proofs.Signed.{new-place-read, place-code-read, place-on-sheet-code-read}
 use Rattle.station.proofs.Calls.{kept, done}
 use Rattle.station.proofs.Bounds.{damage-fits}
 

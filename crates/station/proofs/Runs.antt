@@ -11,7 +11,7 @@ use Rattle.sheet.proofs.Acceptance.{accepted}
 use Rattle.sheet.proofs.Stays.{stays}
 use Rattle.drawing.specs.Drawing.{pixelCount, page, repainted}
 use Rattle.drawing.proofs.Repainting.{fresh-page, length-page, same-pixelCount, repaint-page}
-use Rattle.station.specs.Calls.{editDamage, drawCode, drawFrame, editCode, editReply, editSheet, editFrame, onSheetCode, onSheetReply, onSheetSheet}
+use Rattle.calls.specs.Calls.{editDamage, drawCode, drawFrame, editCode, editReply, editSheet, editFrame, onSheetCode, onSheetReply, onSheetSheet}
 use Rattle.station.specs.Machine.{plainStep, plainReply}
 
 -- ---- a drawing of an accepted sheet on a frame of its size

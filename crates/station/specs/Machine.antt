@@ -4,8 +4,8 @@ use mathlib.Core.List.{List, [], _∷_}
 use Rattle.characters.specs.Refusal.{unlessRefused}
 use Rattle.sheet.specs.Edits.{Edit, refusal, edited}
 use Rattle.drawing.specs.Drawing.{page}
-use Rattle.station.specs.declared.Box.{Box}
-use Rattle.station.specs.Calls.{boxReply, editDamage, drawCode, drawFrame, editReply, editSheet, editFrame, onSheetReply, onSheetSheet}
+use Rattle.calls.specs.declared.Box.{Box}
+use Rattle.calls.specs.Calls.{boxReply, editDamage, drawCode, drawFrame, editReply, editSheet, editFrame, onSheetReply, onSheetSheet}
 
 -- how a run ends: its sheet, its frame, the drawing's code, and the reply to each edit
 pub record Outcome : Type 0 where

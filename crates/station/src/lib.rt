@@ -1,19 +1,28 @@
 // The exported calls, for a host in C. Each runs the check first, then its own tests, rising; a refused call has its number for a
 // code and zeros, and leaves sheet, frame and output as they were.
+pub use calls::Box;
+pub use calls::Number;
+pub use calls::Position;
+pub use calls::Step;
+use calls::codes::draw_item_code;
+use calls::codes::font_code;
+use calls::codes::frame_code;
+use calls::codes::item_code;
+use calls::codes::page_code;
+use calls::codes::place_code;
+use calls::codes::place_on_sheet_code;
+use calls::codes::style_code;
+use calls::codes::style_on_sheet_code;
+use calls::codes::text_code;
+use calls::codes::text_on_sheet_code;
+use calls::codes::whitespace_code;
+use calls::replies::box_reply;
+use calls::replies::position_reply;
+use calls::replies::refused_box;
+use calls::replies::refused_number;
+use calls::replies::refused_position;
 use characters::Step as Walked;
 use characters::walker::walk_from;
-use codes::draw_item_code;
-use codes::font_code;
-use codes::frame_code;
-use codes::item_code;
-use codes::page_code;
-use codes::place_code;
-use codes::place_on_sheet_code;
-use codes::style_code;
-use codes::style_on_sheet_code;
-use codes::text_code;
-use codes::text_on_sheet_code;
-use codes::whitespace_code;
 use drawing::damage::place_damage;
 use drawing::damage::style_damage;
 use drawing::damage::text_damage;
@@ -24,55 +33,12 @@ use edits::put_text;
 use page::write_page;
 use records::font_at;
 use records::mapping_bytes;
-use replies::box_reply;
-use replies::position_reply;
-use replies::refused_box;
-use replies::refused_number;
-use replies::refused_position;
 use sheet::fields::frame_height;
 use sheet::fields::frame_width;
 ghost use mathlib.Core.Path.{_≡_};
 ghost use Rattle.sheet.specs.Check.{check};
 ghost use Rattle.sheet.specs.Edits.{newText, newPlace, newStyle};
-ghost use Rattle.station.specs.Calls.{indexReply, containsReply, boundingBoxReply, drawItemReply, drawItemFrame, whitespaceReply, whitespaceFrame, drawCode, drawFrame, editReply, editSheet, editFrame, onSheetReply, onSheetSheet, pageReply, pageOutput, walkReply};
-
-mod codes;
-pub mod page;
-mod replies;
-
-// A code and a value: an index, yes or no as 1 or 0, or a length.
-#[repr(C)]
-pub struct Number {
-    pub code: u32,
-    pub value: u32,
-}
-
-// A code and a position on the frame.
-#[repr(C)]
-pub struct Position {
-    pub code: u32,
-    pub x: i32,
-    pub y: i32,
-}
-
-// A code and a rectangle on the frame.
-#[repr(C)]
-pub struct Box {
-    pub code: u32,
-    pub left: i32,
-    pub top: i32,
-    pub width: u32,
-    pub height: u32,
-}
-
-// A code, and of the walker: 1 at the end, else the character, and the offset of the next.
-#[repr(C)]
-pub struct Step {
-    pub code: u32,
-    pub ended: u32,
-    pub character: u32,
-    pub next: usize,
-}
+ghost use Rattle.calls.specs.Calls.{indexReply, containsReply, boundingBoxReply, drawItemReply, drawItemFrame, whitespaceReply, whitespaceFrame, drawCode, drawFrame, editReply, editSheet, editFrame, onSheetReply, onSheetSheet, pageReply, pageOutput, walkReply};
 
 // The number of the sheet's first refusal, or 0 for a sheet that is accepted.
 #[no_mangle]

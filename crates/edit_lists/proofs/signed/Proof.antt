@@ -2,7 +2,7 @@
 use Prim.Native.Nat.{_%_}
 use native.Mathlib.Omega.{arith}
 use borrow.Author.Needs.{needs}
-use Rattle.station.proofs.Signed.{difference-fits}
+use Rattle.calls.proofs.Signed.{difference-fits}
 use Rattle.edit_lists.proofs.signed.Statement.{statement}
 use Rattle.edit_lists.proofs.signed.Tie as tie
 

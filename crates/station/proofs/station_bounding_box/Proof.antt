@@ -1,7 +1,7 @@
 -- Refused with the item's code; else the item is listed, and its box has a corner that fits.
 use borrow.Author.Needs.{needs}
-use Rattle.station.specs.Calls.{boundingBoxReply}
-use Rattle.station.proofs.Refusals.{item-listed}
+use Rattle.calls.specs.Calls.{boundingBoxReply}
+use Rattle.calls.proofs.Refusals.{item-listed}
 use Rattle.station.proofs.Calls.{box-refused, box-done}
 use Rattle.station.proofs.Bounds.{item-box-fits}
 use Rattle.station.proofs.station_bounding_box.Statement.{statement}

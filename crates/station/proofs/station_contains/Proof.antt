@@ -1,7 +1,7 @@
 -- Refused with the font's code; else the font is listed, and its mapping says yes or no.
 use borrow.Author.Needs.{needs}
-use Rattle.station.specs.Calls.{containsReply}
-use Rattle.station.proofs.Refusals.{font-listed}
+use Rattle.calls.specs.Calls.{containsReply}
+use Rattle.calls.proofs.Refusals.{font-listed}
 use Rattle.station.proofs.Calls.{number-refused, contains-yes, contains-no}
 use Rattle.station.proofs.station_contains.Statement.{statement}
 use Rattle.station.proofs.station_contains.Tie as tie

@@ -1,7 +1,7 @@
 -- Refused with the frame's code; else the frame has the sheet's size and is drawn.
 use borrow.Author.Needs.{needs}
-use Rattle.station.specs.Calls.{drawFrame}
-use Rattle.station.proofs.Refusals.{draw-framed}
+use Rattle.calls.specs.Calls.{drawFrame}
+use Rattle.calls.proofs.Refusals.{draw-framed}
 use Rattle.station.proofs.Calls.{kept, done}
 use Rattle.station.proofs.station_draw.Statement.{statement}
 use Rattle.station.proofs.station_draw.Tie as tie

@@ -1,7 +1,7 @@
 -- Refused with the call's code; else the item is listed and the frame has the sheet's size.
 use borrow.Author.Needs.{needs}
-use Rattle.station.specs.Calls.{drawItemReply, drawItemFrame}
-use Rattle.station.proofs.Refusals.{draw-item-framed, draw-item-listed}
+use Rattle.calls.specs.Calls.{drawItemReply, drawItemFrame}
+use Rattle.calls.proofs.Refusals.{draw-item-framed, draw-item-listed}
 use Rattle.station.proofs.Calls.{kept, done, position-refused, position-done}
 use Rattle.station.proofs.Bounds.{item-next-fits}
 use Rattle.station.proofs.station_draw_item.Statement.{statement}

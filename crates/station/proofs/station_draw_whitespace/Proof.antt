@@ -1,7 +1,7 @@
 -- Refused with the call's code; else the item is listed, the frame has the sheet's size and the width is within its limit.
 use borrow.Author.Needs.{needs}
-use Rattle.station.specs.Calls.{whitespaceReply, whitespaceFrame}
-use Rattle.station.proofs.Refusals.{whitespace-framed, whitespace-listed, whitespace-narrow}
+use Rattle.calls.specs.Calls.{whitespaceReply, whitespaceFrame}
+use Rattle.calls.proofs.Refusals.{whitespace-framed, whitespace-listed, whitespace-narrow}
 use Rattle.station.proofs.Calls.{kept, done, position-refused, position-done}
 use Rattle.station.proofs.Bounds.{whitespace-next-fits}
 use Rattle.station.proofs.station_draw_whitespace.Statement.{statement}

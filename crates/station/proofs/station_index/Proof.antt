@@ -1,7 +1,7 @@
 -- Refused with the font's code; else the font is listed, and its mapping gives the index.
 use borrow.Author.Needs.{needs}
-use Rattle.station.specs.Calls.{indexReply}
-use Rattle.station.proofs.Refusals.{font-listed}
+use Rattle.calls.specs.Calls.{indexReply}
+use Rattle.calls.proofs.Refusals.{font-listed}
 use Rattle.station.proofs.Calls.{number-refused, mapping-within, index-done}
 use Rattle.station.proofs.station_index.Statement.{statement}
 use Rattle.station.proofs.station_index.Tie as tie

@@ -1,10 +1,10 @@
 -- Refused with the call's code; else the edit is allowed, its rectangle is found on the sheet as it was, and repainted.
 use borrow.Author.Needs.{needs}
-use Rattle.station.specs.Calls.{editReply, editSheet, editFrame}
-use Rattle.station.proofs.Refusals.{edit-allowed}
+use Rattle.calls.specs.Calls.{editReply, editSheet, editFrame}
+use Rattle.calls.proofs.Refusals.{edit-allowed}
 use Rattle.station.proofs.Calls.{box-refused, box-done}
 use Rattle.station.proofs.EditCalls.{edit-damage-fits, edited-accepted, edited-canvas, repainted-as, place-kept, place-done, place-sheet, place-area}
-use Rattle.station.proofs.Signed.{place-code-read}
+use Rattle.calls.proofs.Signed.{place-code-read}
 use Rattle.station.proofs.station_set_place.Statement.{statement}
 use Rattle.station.proofs.station_set_place.Tie as tie
 

@@ -1,10 +1,10 @@
 -- Refused with the call's code; else the edit is allowed, its rectangle is found on the sheet as it was.
 use borrow.Author.Needs.{needs}
-use Rattle.station.specs.Calls.{onSheetReply, onSheetSheet}
-use Rattle.station.proofs.Refusals.{on-sheet-allowed}
+use Rattle.calls.specs.Calls.{onSheetReply, onSheetSheet}
+use Rattle.calls.proofs.Refusals.{on-sheet-allowed}
 use Rattle.station.proofs.Calls.{box-refused, box-done}
 use Rattle.station.proofs.EditCalls.{on-sheet-damage-fits, place-on-sheet-kept, place-on-sheet-done, place-sheet, place-area}
-use Rattle.station.proofs.Signed.{place-on-sheet-code-read}
+use Rattle.calls.proofs.Signed.{place-on-sheet-code-read}
 use Rattle.station.proofs.station_set_place_on_sheet.Statement.{statement}
 use Rattle.station.proofs.station_set_place_on_sheet.Tie as tie
 

@@ -1,7 +1,7 @@
 -- Refused with the call's code; else the edit is allowed, its rectangle is found on the sheet as it was.
 use borrow.Author.Needs.{needs}
-use Rattle.station.specs.Calls.{onSheetReply, onSheetSheet}
-use Rattle.station.proofs.Refusals.{on-sheet-allowed}
+use Rattle.calls.specs.Calls.{onSheetReply, onSheetSheet}
+use Rattle.calls.proofs.Refusals.{on-sheet-allowed}
 use Rattle.station.proofs.Calls.{kept, done, box-refused, box-done}
 use Rattle.station.proofs.EditCalls.{on-sheet-damage-fits}
 use Rattle.station.proofs.station_set_text_on_sheet.Statement.{statement}

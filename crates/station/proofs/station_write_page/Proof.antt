@@ -1,7 +1,7 @@
 -- Refused with the page's code; else the page fits the output and is written at its head.
 use borrow.Author.Needs.{needs}
-use Rattle.station.specs.Calls.{pageReply, pageOutput}
-use Rattle.station.proofs.Refusals.{header-in, page-accepted}
+use Rattle.calls.specs.Calls.{pageReply, pageOutput}
+use Rattle.calls.proofs.Refusals.{header-in, page-accepted}
 use Rattle.station.proofs.Calls.{kept, number-refused, page-room, page-short, page-replied, page-output}
 use Rattle.station.proofs.station_write_page.Statement.{statement}
 use Rattle.station.proofs.station_write_page.Tie as tie

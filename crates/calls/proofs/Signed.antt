@@ -1,0 +1,63 @@
+-- A coordinate as a signed number of 32 bits, and the replies made of two of them. Assumes nothing.
+use Prim.Native.Nat.{ℕ, suc, _-_, _^_, _<_}
+use native.Mathlib.Omega.{arith}
+use mathlib.Core.Path.{_≡_, ap, _∙_}
+use mathlib.Core.Bool.{Bool, true, false, cond}
+use mathlib.Core.List.{List}
+use lib.Dec.{ltb}
+use lib.IntN.{ℤ, pos, negsuc, _-ℤ_}
+use mir.Syntax.{w32}
+use mir.Val.{SFits, toZ}
+use mir.Facts.{toZ-ofZ}
+use borrow.Author.Tests.{lt-ltb}
+use Rattle.geometry.specs.declared.Point.{Point}
+use Rattle.geometry.specs.declared.Rectangle.{Rectangle}
+use Rattle.geometry.specs.Layer.{origin}
+use Rattle.sheet.specs.Edits.{newPlace, placeRefusal, refusal}
+use Rattle.edits.proofs.Signed.{read}
+use Rattle.calls.specs.declared.Position.{Position}
+use Rattle.calls.specs.declared.Box.{Box}
+use Rattle.calls.specs.Calls.{signed, positionReply, boxReply, editCode, onSheetCode}
+use Rattle.calls.specs.Replies.{PointFits, CornerFits}
+
+by-sign : (x : ℕ) → x < 2 ^ 31 → (t : Bool) → SFits w32 (cond t (negsuc (origin - suc x)) (pos (x - origin)))
+by-sign x h true = record { sfits = omega arith }
+by-sign x h false = record { sfits = omega arith }
+
+signed-fits : (x : ℕ) → x < 2 ^ 31 → SFits w32 (signed x)
+signed-fits x h = by-sign x h (ltb x origin)
+
+module _ (x : ℕ) (h : x < 2 ^ 31) where
+  difference : toZ w32 x -ℤ pos origin ≡ signed x
+  difference = simp (lt-ltb x (2 ^ 31) h)
+
+  pub difference-fits : SFits w32 (toZ w32 x -ℤ pos origin)
+  difference-fits = rw difference (signed-fits x h)
+
+  pub difference-is : read (toZ w32 x -ℤ pos origin) ≡ signed x
+  difference-is = rw difference (toZ-ofZ {z = signed x} (signed-fits x h))
+
+  pub read-signed : (z : ℤ) → z ≡ signed x → read z ≡ signed x
+  read-signed z e = rw e (toZ-ofZ {z = signed x} (signed-fits x h))
+
+pub position-is : (p : Point) (x y : ℤ) → PointFits p → x ≡ signed (p .x) → y ≡ signed (p .y) → _≡_ {A = Position} (record { code = 0; x = read x; y = read y }) (positionReply 0 p)
+unfolding positionReply
+position-is p x y f ex ey = rw (read-signed (p .x) (f .x) x ex, read-signed (p .y) (f .y) y ey)
+
+pub box-is : (a : Rectangle) (left top : ℤ) → CornerFits a → left ≡ signed (a .left) → top ≡ signed (a .top)
+    → _≡_ {A = Box} (record { code = 0; left = read left; top = read top; width = a .width; height = a .height }) (boxReply 0 a)
+unfolding boxReply
+box-is a left top f el et = rw (read-signed (a .left) (f .left) left el, read-signed (a .top) (f .top) top et)
+
+-- a new place, as the code reads it
+pub new-place-read : (i : ℕ) (x y : ℤ) → SFits w32 x → SFits w32 y → newPlace i (read x) (read y) ≡ newPlace i x y
+new-place-read i x y fx fy = rw (toZ-ofZ {z = x} fx, toZ-ofZ {z = y} fy)
+
+pub place-read : (b : List ℕ) (i r : ℕ) (x y : ℤ) → SFits w32 x → SFits w32 y → r ≡ placeRefusal b i (read x) (read y) → r ≡ placeRefusal b i x y
+place-read b i r x y fx fy q = q ∙ ap (refusal b) (new-place-read i x y fx fy)
+
+pub place-code-read : (b frame : List ℕ) (i n : ℕ) (x y : ℤ) → SFits w32 x → SFits w32 y → n ≡ editCode b frame (newPlace i (read x) (read y)) → n ≡ editCode b frame (newPlace i x y)
+place-code-read b frame i n x y fx fy q = q ∙ ap (editCode b frame) (new-place-read i x y fx fy)
+
+pub place-on-sheet-code-read : (b : List ℕ) (i n : ℕ) (x y : ℤ) → SFits w32 x → SFits w32 y → n ≡ onSheetCode b (newPlace i (read x) (read y)) → n ≡ onSheetCode b (newPlace i x y)
+place-on-sheet-code-read b i n x y fx fy q = q ∙ ap (onSheetCode b) (new-place-read i x y fx fy)

@@ -1,0 +1,15 @@
+-- The first refusal of two: the second is asked where the first is 0.
+use borrow.Author.Needs.{needs}
+use Rattle.calls.proofs.Refusals.{editCode-is, refused-first, refused-then, draw-accepted}
+use Rattle.calls.proofs.Signed.{place-read}
+use Rattle.calls.proofs.codes.place_code.Statement.{statement}
+use Rattle.calls.proofs.codes.place_code.Tie as tie
+
+pub place-code-spec : {M : Type 1} → statement M
+place-code-spec =
+    tie.close
+    (tie.spec
+    (λ c κs. search needs)
+    (λ c. rw editCode-is (search refused-first))
+    (λ c κs. search draw-accepted)
+    (λ c. rw editCode-is (search (refused-then, place-read))))

@@ -1,0 +1,169 @@
+-- The outcome of every exported call, for all inputs: its code, its reply and what it leaves of sheet, frame and output
+-- (document 01, Replies to the host). Assumes nothing.
+use Prim.Native.Nat.{ℕ, _+_}
+use mathlib.Core.Bool.{Bool, true, false, cond}
+use mathlib.Core.List.{List, _++_}
+use lib.Dec.{leb, ltb, eqb}
+use lib.IntN.{ℤ, pos, _-ℤ_}
+use lib.ListN.{length, drop}
+use Rattle.geometry.specs.declared.Point.{Point}
+use Rattle.geometry.specs.declared.Rectangle.{Rectangle}
+use Rattle.geometry.specs.Layer.{origin, paint}
+use Rattle.characters.specs.declared.Step as Characters
+use Rattle.characters.specs.declared.Step.the-variants.{Character, IllFormed, End}
+use Rattle.characters.specs.Refusal.{need, orElse, unlessRefused}
+use Rattle.characters.specs.Utf8.{stepAt}
+use Rattle.mapping.specs.Mapping.{contains}
+use Rattle.line.specs.Line.{glyphIndex}
+use Rattle.text.specs.Text.{next, boundingBox}
+use Rattle.page.specs.Page.{pageHeader}
+use Rattle.sheet.specs.Fields.{frameWidth, frameHeight, fontCount, itemCount}
+use Rattle.sheet.specs.Check.{check}
+use Rattle.sheet.specs.Records.{font, item, itemFont}
+use Rattle.sheet.specs.Edits.{Edit, itemNumber, refusal, edited}
+use Rattle.drawing.specs.Drawing.{itemLayer, freshDrawing, pixelCount, whitespaceLayer, whitespaceNext, damage, repainted}
+use Rattle.calls.specs.declared.Number.{Number}
+use Rattle.calls.specs.declared.Position.{Position}
+use Rattle.calls.specs.declared.Box.{Box}
+use Rattle.calls.specs.declared.Step.{Step}
+
+-- ---- replies: "A good call returns 0 with its position, box, index, ..", "A refused one returns its number with zeros"
+
+-- a coordinate as a signed number of the frame's columns or rows
+abbrev pub signed : ℕ → ℤ
+signed x = pos x -ℤ pos origin
+
+unfoldable pub numberReply : ℕ → ℕ → Number
+numberReply code value = record { code = code; value = unlessRefused code value 0 }
+
+unfoldable pub positionReply : ℕ → Point → Position
+positionReply code p = record { code = code; x = unlessRefused code (signed (p .x)) (pos 0); y = unlessRefused code (signed (p .y)) (pos 0) }
+
+unfoldable pub boxReply : ℕ → Rectangle → Box
+boxReply code a = record {
+  code = code;
+  left = unlessRefused code (signed (a .left)) (pos 0);
+  top = unlessRefused code (signed (a .top)) (pos 0);
+  width = unlessRefused code (a .width) 0;
+  height = unlessRefused code (a .height) 0;
+}
+
+abbrev pub yesNo : Bool → ℕ
+yesNo true = 1
+yesNo false = 0
+
+-- ---- the calls' own tests, after the check
+
+-- 12 of a font or an item
+abbrev pub isThere : ℕ → ℕ → ℕ → ℕ
+isThere number count rest = need (ltb number count) 12 rest
+
+-- 11
+abbrev pub fits : List ℕ → List ℕ → ℕ → ℕ
+fits b frame rest = need (eqb (length frame) (pixelCount b)) 11 rest
+
+-- ---- station_check: `check` itself
+
+-- ---- station_index, station_contains
+
+unfoldable pub fontCode : List ℕ → ℕ → ℕ
+fontCode b n = orElse (check b) (isThere n (fontCount b) 0)
+
+unfoldable pub indexReply : List ℕ → ℕ → ℕ → Number
+indexReply b n ch = numberReply (fontCode b n) (glyphIndex (font b n) ch)
+
+unfoldable pub containsReply : List ℕ → ℕ → ℕ → Number
+containsReply b n ch = numberReply (fontCode b n) (yesNo (contains (font b n .mapping) ch))
+
+-- ---- station_bounding_box
+
+unfoldable pub itemCode : List ℕ → ℕ → ℕ
+itemCode b n = orElse (check b) (isThere n (itemCount b) 0)
+
+unfoldable pub boundingBoxReply : List ℕ → ℕ → Box
+boundingBoxReply b n = boxReply (itemCode b n) (boundingBox (itemFont b n .mono) (item b n))
+
+-- ---- station_draw_item
+
+unfoldable pub drawItemCode : List ℕ → List ℕ → ℕ → ℕ
+drawItemCode b frame n = orElse (check b) (fits b frame (isThere n (itemCount b) 0))
+
+unfoldable pub drawItemReply : List ℕ → List ℕ → ℕ → Position
+drawItemReply b frame n = positionReply (drawItemCode b frame n) (next (itemFont b n .mono) (item b n))
+
+unfoldable pub drawItemFrame : List ℕ → List ℕ → ℕ → List ℕ
+drawItemFrame b frame n = unlessRefused (drawItemCode b frame n) (paint (frameWidth b) (itemLayer b n) frame) frame
+
+-- ---- station_draw_whitespace
+
+unfoldable pub whitespaceCode : List ℕ → List ℕ → ℕ → ℕ → ℕ
+whitespaceCode b frame n width = orElse (check b) (fits b frame (isThere n (itemCount b) (need (leb width 65_535) 18 0)))
+
+unfoldable pub whitespaceReply : List ℕ → List ℕ → ℕ → ℕ → Position
+whitespaceReply b frame n width = positionReply (whitespaceCode b frame n width) (whitespaceNext (item b n) width)
+
+unfoldable pub whitespaceFrame : List ℕ → List ℕ → ℕ → ℕ → List ℕ
+whitespaceFrame b frame n width = unlessRefused (whitespaceCode b frame n width) (paint (frameWidth b) (whitespaceLayer (itemFont b n .mono) (item b n) width) frame) frame
+
+-- ---- station_draw
+
+unfoldable pub drawCode : List ℕ → List ℕ → ℕ
+drawCode b frame = orElse (check b) (fits b frame 0)
+
+unfoldable pub drawFrame : List ℕ → List ℕ → List ℕ
+drawFrame b frame = unlessRefused (drawCode b frame) (freshDrawing b frame) frame
+
+-- ---- station_set_text, station_set_place, station_set_style
+
+-- the damage rectangle of an edit
+abbrev pub editDamage : List ℕ → Edit → Rectangle
+editDamage b e = damage b (edited b e) (itemNumber e)
+
+unfoldable pub editCode : List ℕ → List ℕ → Edit → ℕ
+editCode b frame e = orElse (check b) (fits b frame (refusal b e))
+
+unfoldable pub editReply : List ℕ → List ℕ → Edit → Box
+editReply b frame e = boxReply (editCode b frame e) (editDamage b e)
+
+unfoldable pub editSheet : List ℕ → List ℕ → Edit → List ℕ
+editSheet b frame e = unlessRefused (editCode b frame e) (edited b e) b
+
+unfoldable pub editFrame : List ℕ → List ℕ → Edit → List ℕ
+editFrame b frame e = unlessRefused (editCode b frame e) (repainted (edited b e) (editDamage b e) frame) frame
+
+-- ---- station_set_text_on_sheet, station_set_place_on_sheet, station_set_style_on_sheet
+
+unfoldable pub onSheetCode : List ℕ → Edit → ℕ
+onSheetCode b e = orElse (check b) (refusal b e)
+
+unfoldable pub onSheetReply : List ℕ → Edit → Box
+onSheetReply b e = boxReply (onSheetCode b e) (editDamage b e)
+
+unfoldable pub onSheetSheet : List ℕ → Edit → List ℕ
+onSheetSheet b e = unlessRefused (onSheetCode b e) (edited b e) b
+
+-- ---- station_write_page
+
+-- the page as a file: "greys by row"
+unfoldable pub netpbm : List ℕ → List ℕ → List ℕ
+netpbm b frame = pageHeader (frameWidth b) (frameHeight b) ++ frame
+
+unfoldable pub pageCode : List ℕ → List ℕ → List ℕ → ℕ
+pageCode b frame output = orElse (check b) (fits b frame (need (leb (length (netpbm b frame)) (length output)) 17 0))
+
+unfoldable pub pageReply : List ℕ → List ℕ → List ℕ → Number
+pageReply b frame output = numberReply (pageCode b frame output) (length (netpbm b frame))
+
+-- "output past the page keeps its bytes"
+unfoldable pub pageOutput : List ℕ → List ℕ → List ℕ → List ℕ
+pageOutput b frame output = unlessRefused (pageCode b frame output) (netpbm b frame ++ drop (length (netpbm b frame)) output) output
+
+-- ---- station_walk: "at or past its end it says so and keeps the offset, otherwise it gives character and next offset, or 10"
+
+unfoldable pub stepReply : ℕ → Characters.Step → Step
+stepReply at (Character ch c) = record { code = 0; ended = 0; character = ch; next = c .at }
+stepReply at IllFormed = record { code = 10; ended = 0; character = 0; next = 0 }
+stepReply at End = record { code = 0; ended = 1; character = 0; next = at }
+
+unfoldable pub walkReply : List ℕ → ℕ → Step
+walkReply line at = stepReply at (stepAt line at)

@@ -1,0 +1,29 @@
+-- What the functions that make replies cite: a refused call's reply, and what a good one's requires. Assumes nothing.
+use Prim.Native.Nat.{ℕ, _^_, _<_}
+use lib.IntN.{pos}
+use Rattle.geometry.specs.declared.Point.{Point}
+use Rattle.geometry.specs.declared.Rectangle.{Rectangle}
+use Rattle.calls.specs.declared.Number.{Number}
+use Rattle.calls.specs.declared.Position.{Position}
+use Rattle.calls.specs.declared.Box.{Box}
+
+-- "A refused one returns its number with zeros"
+
+abbrev pub refusedNumber : ℕ → Number
+refusedNumber code = record { code = code; value = 0 }
+
+abbrev pub refusedPosition : ℕ → Position
+refusedPosition code = record { code = code; x = pos 0; y = pos 0 }
+
+abbrev pub refusedBox : ℕ → Box
+refusedBox code = record { code = code; left = pos 0; top = pos 0; width = 0; height = 0 }
+
+-- coordinates that fit a signed number of 32 bits
+
+pub record PointFits (p : Point) : Type 0 where
+  pub x : p .x < 2 ^ 31
+  pub y : p .y < 2 ^ 31
+
+pub record CornerFits (a : Rectangle) : Type 0 where
+  pub left : a .left < 2 ^ 31
+  pub top : a .top < 2 ^ 31

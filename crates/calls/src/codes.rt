@@ -1,0 +1,166 @@
+// The codes of the calls: the check's refusal, then the call's own tests, rising.
+use page::page_length;
+use sheet::fields::font_count;
+use sheet::fields::frame_height;
+use sheet::fields::frame_width;
+use sheet::fields::item_count;
+ghost use mathlib.Core.Path.{_≡_};
+ghost use Rattle.sheet.specs.Edits.{newText, newPlace, newStyle};
+ghost use Rattle.calls.specs.Calls.{isThere, fontCode, itemCode, drawCode, drawItemCode, whitespaceCode, editCode, onSheetCode, pageCode};
+
+// 12 for a number that is not below the count.
+fn is_there(n: u32, count: u32) -> u32
+    ensures { λ r. ⌜ r ≡ isThere n count 0 ⌝ }
+{
+    if n < count {
+        return 0;
+    }
+    12
+}
+
+// The check, then 12 for a font.
+pub fn font_code(sheet: &[u8], n: u32) -> u32
+    ensures { λ r. ⌜ r ≡ fontCode (now (sheet .entry)) n ⌝ }
+{
+    let code = sheet::check(sheet);
+    if code != 0 {
+        return code;
+    }
+    is_there(n, font_count(sheet))
+}
+
+// The check, then 12 for an item.
+pub fn item_code(sheet: &[u8], n: u32) -> u32
+    ensures { λ r. ⌜ r ≡ itemCode (now (sheet .entry)) n ⌝ }
+{
+    let code = sheet::check(sheet);
+    if code != 0 {
+        return code;
+    }
+    is_there(n, item_count(sheet))
+}
+
+// The check, then 11.
+pub fn frame_code(sheet: &[u8], frame: &[u8]) -> u32
+    ensures { λ r. ⌜ r ≡ drawCode (now (sheet .entry)) (now (frame .entry)) ⌝ }
+{
+    let code = sheet::check(sheet);
+    if code != 0 {
+        return code;
+    }
+    let w = frame_width(sheet) as usize;
+    let h = frame_height(sheet) as usize;
+    let pixels = w * h;
+    if frame.len() == pixels {
+        return 0;
+    }
+    11
+}
+
+// The check, 11, then 12 for an item.
+pub fn draw_item_code(sheet: &[u8], frame: &[u8], n: u32) -> u32
+    ensures { λ r. ⌜ r ≡ drawItemCode (now (sheet .entry)) (now (frame .entry)) n ⌝ }
+{
+    let code = frame_code(sheet, frame);
+    if code != 0 {
+        return code;
+    }
+    is_there(n, item_count(sheet))
+}
+
+// The check, 11, 12, then 18.
+pub fn whitespace_code(sheet: &[u8], frame: &[u8], n: u32, width: u32) -> u32
+    ensures { λ r. ⌜ r ≡ whitespaceCode (now (sheet .entry)) (now (frame .entry)) n width ⌝ }
+{
+    let code = draw_item_code(sheet, frame, n);
+    if code != 0 {
+        return code;
+    }
+    if width <= 65535 {
+        return 0;
+    }
+    18
+}
+
+// The check, 11, then 17.
+pub fn page_code(sheet: &[u8], frame: &[u8], output: &[u8]) -> u32
+    ensures { λ r. ⌜ r ≡ pageCode (now (sheet .entry)) (now (frame .entry)) (now (output .entry)) ⌝ }
+{
+    let code = frame_code(sheet, frame);
+    if code != 0 {
+        return code;
+    }
+    let w = frame_width(sheet) as usize;
+    let h = frame_height(sheet) as usize;
+    let length = page_length(frame, w, h);
+    if length <= output.len() {
+        return 0;
+    }
+    17
+}
+
+// The check, 11, then the refusals of a new text.
+pub fn text_code(sheet: &[u8], frame: &[u8], item: u32, text: &[u8]) -> u32
+    ensures { λ r. ⌜ r ≡ editCode (now (sheet .entry)) (now (frame .entry)) (newText item (now (text .entry))) ⌝ }
+{
+    let code = frame_code(sheet, frame);
+    if code != 0 {
+        return code;
+    }
+    edits::text_refusal(sheet, item, text)
+}
+
+// The check, 11, then the refusals of a new place.
+pub fn place_code(sheet: &[u8], frame: &[u8], item: u32, x: i32, y: i32) -> u32
+    ensures { λ r. ⌜ r ≡ editCode (now (sheet .entry)) (now (frame .entry)) (newPlace item x y) ⌝ }
+{
+    let code = frame_code(sheet, frame);
+    if code != 0 {
+        return code;
+    }
+    edits::place_refusal(sheet, item, x, y)
+}
+
+// The check, 11, then the refusals of a new style.
+pub fn style_code(sheet: &[u8], frame: &[u8], item: u32, style: &[u8]) -> u32
+    ensures { λ r. ⌜ r ≡ editCode (now (sheet .entry)) (now (frame .entry)) (newStyle item (now (style .entry))) ⌝ }
+{
+    let code = frame_code(sheet, frame);
+    if code != 0 {
+        return code;
+    }
+    edits::style_refusal(sheet, item, style)
+}
+
+// The check, then the refusals of a new text.
+pub fn text_on_sheet_code(sheet: &[u8], item: u32, text: &[u8]) -> u32
+    ensures { λ r. ⌜ r ≡ onSheetCode (now (sheet .entry)) (newText item (now (text .entry))) ⌝ }
+{
+    let code = sheet::check(sheet);
+    if code != 0 {
+        return code;
+    }
+    edits::text_refusal(sheet, item, text)
+}
+
+// The check, then the refusals of a new place.
+pub fn place_on_sheet_code(sheet: &[u8], item: u32, x: i32, y: i32) -> u32
+    ensures { λ r. ⌜ r ≡ onSheetCode (now (sheet .entry)) (newPlace item x y) ⌝ }
+{
+    let code = sheet::check(sheet);
+    if code != 0 {
+        return code;
+    }
+    edits::place_refusal(sheet, item, x, y)
+}
+
+// The check, then the refusals of a new style.
+pub fn style_on_sheet_code(sheet: &[u8], item: u32, style: &[u8]) -> u32
+    ensures { λ r. ⌜ r ≡ onSheetCode (now (sheet .entry)) (newStyle item (now (style .entry))) ⌝ }
+{
+    let code = sheet::check(sheet);
+    if code != 0 {
+        return code;
+    }
+    edits::style_refusal(sheet, item, style)
+}

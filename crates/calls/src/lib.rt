@@ -1,0 +1,37 @@
+// What the exported calls answer: their codes and their replies, for a host in C.
+pub mod codes;
+pub mod replies;
+
+// A code and a value: an index, yes or no as 1 or 0, or a length.
+#[repr(C)]
+pub struct Number {
+    pub code: u32,
+    pub value: u32,
+}
+
+// A code and a position on the frame.
+#[repr(C)]
+pub struct Position {
+    pub code: u32,
+    pub x: i32,
+    pub y: i32,
+}
+
+// A code and a rectangle on the frame.
+#[repr(C)]
+pub struct Box {
+    pub code: u32,
+    pub left: i32,
+    pub top: i32,
+    pub width: u32,
+    pub height: u32,
+}
+
+// A code, and of the walker: 1 at the end, else the character, and the offset of the next.
+#[repr(C)]
+pub struct Step {
+    pub code: u32,
+    pub ended: u32,
+    pub character: u32,
+    pub next: usize,
+}

@@ -1,0 +1,71 @@
+// The replies by value: a good one from numbers counted from the origin, and a refused one, with zeros.
+use super::Box;
+use super::Number;
+use super::Position;
+use geometry::Point;
+use geometry::Rectangle;
+ghost use mathlib.Core.Path.{_≡_};
+ghost use Prim.Native.Nat.{_<_, _^_};
+ghost use Rattle.calls.specs.Calls.{signed, positionReply, boxReply};
+ghost use Rattle.calls.specs.Replies.{refusedNumber, refusedPosition, refusedBox, PointFits, CornerFits};
+
+// The reply of a refused call that gives a number.
+pub fn refused_number(code: u32) -> Number
+    ensures { λ r. ⌜ r ≡ refusedNumber code ⌝ }
+{
+    Number { code, value: 0 }
+}
+
+// The reply of a refused call that gives a position.
+pub fn refused_position(code: u32) -> Position
+    ensures { λ r. ⌜ r ≡ refusedPosition code ⌝ }
+{
+    Position { code, x: 0, y: 0 }
+}
+
+// The reply of a refused call that gives a rectangle.
+pub fn refused_box(code: u32) -> Box
+    ensures { λ r. ⌜ r ≡ refusedBox code ⌝ }
+{
+    Box {
+        code,
+        left: 0,
+        top: 0,
+        width: 0,
+        height: 0,
+    }
+}
+
+// A coordinate as a signed number of the frame's columns or rows.
+fn signed(x: u32) -> i32
+    requires { ⌜ x < 2 ^ 31 ⌝ }
+    ensures { λ r. ⌜ r ≡ signed x ⌝ }
+{
+    x as i32 - 2097152
+}
+
+// The reply of a good call that gives a position.
+pub fn position_reply(p: Point) -> Position
+    requires { ⌜ PointFits p ⌝ }
+    ensures { λ r. ⌜ r ≡ positionReply 0 p ⌝ }
+{
+    Position {
+        code: 0,
+        x: signed(p.x),
+        y: signed(p.y),
+    }
+}
+
+// The reply of a good call that gives a rectangle.
+pub fn box_reply(a: Rectangle) -> Box
+    requires { ⌜ CornerFits a ⌝ }
+    ensures { λ r. ⌜ r ≡ boxReply 0 a ⌝ }
+{
+    Box {
+        code: 0,
+        left: signed(a.left),
+        top: signed(a.top),
+        width: a.width,
+        height: a.height,
+    }
+}
