@@ -1,7 +1,7 @@
 -- The outcome of every exported call, for all inputs: its code, its reply and what it leaves of sheet, frame and output
 -- (document 01, Replies to the host). Assumes nothing.
 use Prim.Native.Nat.{ℕ, _+_}
-use mathlib.Core.Bool.{Bool, true, false, cond}
+use mathlib.Core.Bool.{Bool, true, false}
 use mathlib.Core.List.{List, _++_}
 use lib.Dec.{leb, ltb, eqb}
 use lib.IntN.{ℤ, pos, _-ℤ_}

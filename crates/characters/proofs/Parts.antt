@@ -5,12 +5,11 @@ use mathlib.Core.Bool.{Bool, true, false, cond, _&&_, and-eq-true-iff, false≢t
 use mathlib.Core.List.{List, [], _∷_, _++_, append-assoc}
 use Prim.Native.Nat.{ℕ, zero, suc, _+_, _-_, _<_, _≤_}
 use native.Mathlib.Nat.{add-assoc}
-use native.Mathlib.Numerals.{add-one}
 use native.Mathlib.Omega.{arith}
 use native.Mathlib.Decide.{decLt}
 use borrow.Author.Tests.{lt-ltb, le-ltb, eqb-true, ne-eqb, lt-leb}
-use lib.ListN.{length, getD, take, drop, length-append, List·getD-append}
-use lib.Seq.{split-at, getD-append-add, getD-append-seam}
+use lib.ListN.{length, getD, length-append, List·getD-append}
+use lib.Seq.{getD-append-add, getD-append-seam}
 use lib.Dec.{ltb, eqb, lit<}
 use Rattle.characters.specs.declared.Step.{Step}
 use Rattle.characters.specs.declared.Step.the-variants.{Character, IllFormed, End}
@@ -219,14 +218,3 @@ module _ (a b : List ℕ) where
 
   pub chars-line-feed : wellFormed (a ++ (10 ∷ b)) ≡ true → chars (a ++ (10 ∷ b)) ≡ chars a ++ (10 ∷ chars b)
   chars-line-feed w = chars-parts a 10 b (lit< tt) (well-formed-lines w .0)
-
--- the same at the place of a 0A in a text
-module _ (s : List ℕ) (i : ℕ) (h : i < length s) (feed : getD s i 0 ≡ 10) where
-  at-feed : s ≡ take i s ++ (10 ∷ drop (i + 1) s)
-  at-feed = split-at s i 0 h ∙ rw (feed, add-one i)
-
-  pub well-formed-split : wellFormed s ≡ (wellFormed (take i s) && wellFormed (drop (i + 1) s))
-  well-formed-split = ap wellFormed at-feed ∙ well-formed-line-feed (take i s) (drop (i + 1) s)
-
-  pub chars-split : wellFormed s ≡ true → chars s ≡ chars (take i s) ++ (10 ∷ chars (drop (i + 1) s))
-  chars-split w = ap chars at-feed ∙ chars-line-feed (take i s) (drop (i + 1) s) (sym (ap wellFormed at-feed) ∙ w)

@@ -5,7 +5,6 @@ use mathlib.Core.List.{List, [], _∷_}
 use mathlib.Core.Bool.{Bool, true, false, not, cond, _&&_}
 use lib.ListN.{length, getD}
 use lib.Dec.{ltb, leb, eqb}
-use Rattle.characters.specs.declared.Cursor.{Cursor}
 use Rattle.characters.specs.declared.Step.{Step}
 use Rattle.characters.specs.declared.Step.the-variants.{Character, IllFormed, End}
 

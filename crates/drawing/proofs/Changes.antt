@@ -1,7 +1,7 @@
 -- The damage rectangle of an edit is that of the change that it makes. Assumes nothing.
-use Prim.Native.Nat.{ℕ, _≤_, _<_}
+use Prim.Native.Nat.{ℕ, _≤_}
 use native.Mathlib.Omega.{arith}
-use mathlib.Core.Path.{_≡_, refl, sym, ap, _∙_}
+use mathlib.Core.Path.{_≡_, sym, ap, _∙_}
 use mathlib.Core.Bool.{Bool, true, false, cond}
 use mathlib.Core.List.{List}
 use lib.IntN.{ℤ, pos, negsuc}
@@ -11,7 +11,6 @@ use mir.Syntax.{w32}
 use mir.Val.{SFits}
 use mir.Facts.{toZ-ofZ}
 use Rattle.geometry.specs.declared.Rectangle.{Rectangle}
-use Rattle.geometry.specs.declared.Point.{Point}
 use Rattle.geometry.specs.Rectangle.{rectangle, isEmpty, join, intersection}
 use Rattle.geometry.specs.Layer.{origin, frameOf}
 use Rattle.line.specs.declared.MonoTextStyle.{MonoTextStyle}
@@ -20,7 +19,7 @@ use Rattle.text.specs.Lines.{either}
 use Rattle.text.specs.Limits.{TextLimits}
 use Rattle.sheet.specs.Fields.{frameWidth, frameHeight, itemAt, textBytes}
 use Rattle.sheet.specs.Requires.{ItemListed, EditAllowed}
-use Rattle.sheet.specs.Records.{styleOf, itemOf, item, itemFont}
+use Rattle.sheet.specs.Records.{styleOf, itemOf, item}
 use Rattle.sheet.specs.Edits.{Edit, newText, newPlace, newStyle, itemNumber, inRange, biased, edited}
 use Rattle.sheet.proofs.Allowed.{listed, text-allowed, place-allowed, style-allowed}
 use Rattle.edits.proofs.Signed.{read}

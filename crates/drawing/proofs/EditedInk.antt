@@ -1,12 +1,12 @@
 -- The ink box of an item after each edit, from what is read of it before. Assumes nothing.
 use Prim.Native.Nat.{ℕ}
-use mathlib.Core.Path.{_≡_, ap, _∙_}
+use mathlib.Core.Path.{_≡_}
 use mathlib.Core.List.{List}
 use lib.IntN.{ℤ}
 use Rattle.text.specs.Text.{textOf, inkBox}
 use Rattle.sheet.specs.Accepted.{Accepted}
 use Rattle.sheet.specs.Records.{styleOf, item, itemFont}
-use Rattle.sheet.specs.Edits.{Edit, newText, newPlace, newStyle, itemNumber, refusal, biased, edited}
+use Rattle.sheet.specs.Edits.{newText, newPlace, newStyle, refusal, biased, edited}
 use Rattle.sheet.proofs.Allowed.{listed}
 use Rattle.sheet.proofs.Unchanged.{same-itemFont}
 use Rattle.sheet.proofs.EditedItem.{text-edited, place-edited, style-edited}

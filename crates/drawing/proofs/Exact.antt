@@ -1,13 +1,13 @@
 -- Under document 01's limits no subtraction from a coordinate is cut at 0: each line of each item of an accepted sheet starts, and has its
 -- top edge, where document 01 puts it in signed numbers. Assumes nothing.
-use Prim.Native.Nat.{ℕ, _+_, _-_, _*_, _/_, _≤_, _<_}
+use Prim.Native.Nat.{ℕ, _+_, _-_, _≤_, _<_}
 use native.Mathlib.Nat.{mul-le-mul}
 use native.Mathlib.Omega.{arith}
-use mathlib.Core.Path.{_≡_, refl, sym, ap, _∙_}
+use mathlib.Core.Path.{_≡_, refl, ap, _∙_}
 use mathlib.Core.Bool.{Bool, true, false, cond}
 use mathlib.Core.List.{List, List·Memᴰ}
 use lib.Dec.{ltb}
-use lib.IntN.{ℤ, pos, _-ℤ_}
+use lib.IntN.{pos, _-ℤ_}
 use lib.ListN.{length, getD, length-take, length-drop}
 use borrow.Author.Tests.{ltb-false}
 use Rattle.geometry.specs.Layer.{origin}
@@ -17,9 +17,9 @@ use Rattle.line.specs.declared.Baseline.{Baseline}
 use Rattle.line.specs.declared.Baseline.the-variants.{Top, Bottom, Middle, Alphabetic}
 use Rattle.line.specs.declared.MonoFont.{MonoFont}
 use Rattle.line.specs.Line.{characterWidth, characterHeight, spacing, baselineOffset, measuredWidth}
-use Rattle.text.specs.Text.{Text, PlacedLine, lines, placeLine, placeLines, placedLines, lineTop}
+use Rattle.text.specs.Text.{Text, PlacedLine, lines, placeLine, placedLines, lineTop}
 use Rattle.text.proofs.Exact.{signedStart, start-exact, top-exact, PlacedAt, placed-at, length-line}
-use Rattle.sheet.specs.Fields.{u16, part, coordinate, itemCount, fontCount, itemAt, fontAt, fontNumber}
+use Rattle.sheet.specs.Fields.{u16, part, coordinate, itemCount, itemAt, fontAt, fontNumber}
 use Rattle.sheet.specs.Check.{check}
 use Rattle.sheet.specs.Accepted.{Accepted}
 use Rattle.sheet.specs.Records.{monoFont, font, itemOf, item, itemFont}

@@ -1,11 +1,11 @@
 -- What the painting functions leave on a frame, each law in the form in which a function's proof has its facts. Assumes nothing.
-use Prim.Native.Nat.{ℕ, zero, suc, _+_, _-_, _*_, _/_, _%_, _≤_, _<_, min, max}
+use Prim.Native.Nat.{ℕ, suc, _+_, _-_, _*_, _/_, _%_, _≤_, _<_}
 use native.Mathlib.Nat.{mod-lt, div-lt-iff-lt-mul, mul-comm}
 use native.Mathlib.Numerals.{add-one}
 use native.Mathlib.Omega.{arith}
 use mathlib.Core.Path.{_≡_, refl, sym, ap, _∙_}
 use mathlib.Core.Bool.{Bool, true, false, cond}
-use mathlib.Core.List.{List, [], _∷_}
+use mathlib.Core.List.{List, []}
 use mathlib.Core.Logic.{⊎-elim}
 use lib.ListN.{length, getD}
 use Rattle.geometry.specs.declared.Rectangle.{Rectangle}
@@ -13,10 +13,10 @@ use Rattle.geometry.specs.declared.OptionalGrey.the-variants.{Set}
 use Rattle.geometry.specs.Rectangle.{rectangle, isEmpty, join, intersection}
 use Rattle.geometry.specs.Layer.{origin, Layer, over, within, filled, paint, paintIn, frameOf}
 use Rattle.geometry.specs.Canvas.{Canvas}
-use Rattle.geometry.proofs.Rectangles.{In, in-or-out, in-not-empty, intersection-in}
+use Rattle.geometry.proofs.Rectangles.{in-or-out, in-not-empty, intersection-in}
 use Rattle.geometry.proofs.Clips.{shown-in-area, shown-ends}
 use Rattle.geometry.proofs.Layers.{within-in, within-out, within-none, paint-agree, paint-none, paint-same}
-use Rattle.line.proofs.Painting.{paint-then, Inside, Disjoint, paint-disjoint}
+use Rattle.line.proofs.Painting.{paint-then, paint-disjoint}
 use Rattle.text.proofs.Ink.{layer-out}
 use Rattle.sheet.specs.Fields.{frameWidth, frameHeight, paper, itemCount}
 use Rattle.sheet.specs.Accepted.{Accepted}

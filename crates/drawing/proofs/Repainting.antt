@@ -1,6 +1,6 @@
 -- One accepted edit of an accepted sheet: the pages before and after agree outside the damage rectangle, so that the old page,
 -- repainted there, is the new one. Assumes nothing.
-use Prim.Native.Nat.{ℕ, zero, suc, _+_, _*_, _/_, _%_, _≤_, _<_}
+use Prim.Native.Nat.{ℕ, zero, suc, _+_, _/_, _%_, _<_}
 use native.Mathlib.Nat.{mod-lt, div-lt-iff-lt-mul, mul-comm}
 use native.Mathlib.Omega.{arith}
 use mathlib.Core.Path.{_≡_, refl, sym, ap, _∙_}
@@ -12,18 +12,14 @@ use lib.ListN.{length, getD, replicate, length-replicate}
 use borrow.Author.Tests.{eqb-true, eqb-false}
 use Rattle.geometry.specs.declared.Rectangle.{Rectangle}
 use Rattle.geometry.specs.Rectangle.{covers}
-use Rattle.geometry.specs.Layer.{origin, Layer, over, within, paint}
+use Rattle.geometry.specs.Layer.{origin, over, within}
 use Rattle.geometry.proofs.Rectangles.{In, covers-out}
 use Rattle.geometry.proofs.Layers.{length-paint, paint-at, paint-over, paint-agree}
-use Rattle.text.specs.Text.{layer}
 use Rattle.text.proofs.Ink.{layer-out}
 use Rattle.sheet.specs.Fields.{frameWidth, frameHeight, paper, itemCount}
-use Rattle.sheet.specs.Check.{check}
 use Rattle.sheet.specs.Accepted.{Accepted}
 use Rattle.sheet.specs.Records.{item, itemFont}
 use Rattle.sheet.specs.Edits.{Edit, itemNumber, refusal, edited}
-use Rattle.sheet.proofs.Acceptance.{accepted}
-use Rattle.sheet.proofs.Allowed.{listed}
 use Rattle.sheet.proofs.Unchanged.{same-frameWidth, same-frameHeight, same-paper, same-itemCount, same-other, same-itemFont}
 use Rattle.drawing.specs.Drawing.{numbersFrom, order, itemLayer, itemsLayer, pageLayer, freshDrawing, pixelCount, columnOf, rowOf, page, itemInk, damage, repainted}
 use Rattle.drawing.proofs.DamageHolds.{damage-before, damage-after}

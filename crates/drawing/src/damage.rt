@@ -6,8 +6,6 @@ use geometry::Rectangle;
 use line::MonoTextStyle;
 ghost use mathlib.Core.Path.{_≡_};
 ghost use Rattle.geometry.specs.Rectangle.{EndsFit, join, intersection};
-ghost use Rattle.geometry.specs.Layer.{frameOf};
-ghost use Rattle.sheet.specs.Fields.{frameWidth, frameHeight};
 ghost use Rattle.sheet.specs.Accepted.{Accepted};
 ghost use Rattle.sheet.specs.Requires.{ItemListed, EditAllowed};
 ghost use Rattle.sheet.specs.Edits.{newText, newPlace, newStyle, edited};

@@ -151,7 +151,3 @@ module _ (a b : Rectangle) (fa : EndsFit a) (fb : EndsFit b) where
       go true u = fa
       go false true = fb
       go false false = ends-fit-envelope
-
-  pub ends-fit-intersection : EndsFit (intersection a b)
-  unfolding intersection
-  ends-fit-intersection = omega (arith, fa, fb)

@@ -1,9 +1,6 @@
 -- Limits under which no sum of a line's drawing is too large: what its functions require, and what an accepted sheet gives.
 -- Assumes nothing.
 use Prim.Native.Nat.{ℕ, _≤_}
-use mathlib.Core.List.{List}
-use lib.ListN.{length}
-use Rattle.mapping.specs.Mapping.{listOf}
 use Rattle.line.specs.declared.DecorationDimensions.{DecorationDimensions}
 use Rattle.line.specs.declared.MonoFont.{MonoFont}
 use Rattle.line.specs.Line.{characterWidth, characterHeight, spacing}
@@ -19,11 +16,6 @@ pub record FontLimits (m : MonoFont) : Type 0 where
   pub strikethrough-low : m .strikethrough .height ≤ 255
   pub underline-near : m .underline .offset ≤ 255
   pub underline-low : m .underline .height ≤ 255
-
--- a font's pieces
-pub record PieceLimits (atlas mapping : List ℕ) : Type 0 where
-  pub atlas-short : length atlas ≤ 65_536
-  pub mapping-short : length (listOf mapping) ≤ 65_536
 
 -- n bytes of text
 pub record LengthLimit (n : ℕ) : Type 0 where

@@ -3,7 +3,7 @@
 -- Assumes nothing.
 use Prim.Native.Nat.{ℕ, _<_}
 use native.Mathlib.Omega.{arith}
-use mathlib.Core.Path.{_≡_, refl, sym, ap, _∙_}
+use mathlib.Core.Path.{_≡_, refl, sym, _∙_}
 use mathlib.Core.Bool.{true, false}
 use lib.Dec.{eqb}
 use mathlib.Core.List.{List, [], _∷_}
@@ -20,7 +20,7 @@ use Rattle.sheet.proofs.Unchanged.{same-frameWidth}
 use Rattle.drawing.specs.Drawing.{pixelCount, columnOf, rowOf, page, repainted}
 use Rattle.drawing.proofs.Repainting.{length-page, same-pixelCount, repainted-inside, repainted-outside}
 use Rattle.calls.specs.Calls.{boxReply, fits, editDamage, editCode, editReply, editSheet, editFrame}
-use Rattle.station.specs.Machine.{Outcome, patchedSheet, patchedFrame, patchedReplies, patchedRun, freshSheet, freshReplies, freshRun, plainStep, plainSheet, plainReplies, plainRun}
+use Rattle.station.specs.Machine.{patchedSheet, patchedFrame, patchedReplies, patchedRun, freshSheet, freshReplies, freshRun, plainStep, plainSheet, plainReplies, plainRun}
 use Rattle.station.proofs.Runs.{draw-zero, draw-page, step-accepted, step-size, on-sheet-sheet, on-sheet-reply, edit-sheet, edit-reply, edit-page}
 
 -- ---- the runs, edit by edit

@@ -1,5 +1,4 @@
 -- The change is the edit: what is read after it is the item at the new place. Assumes nothing.
-use borrow.Author.Needs.{needs}
 use Rattle.edits.proofs.Stored.{x-in-range, y-in-range}
 use Rattle.drawing.proofs.Changes.{edit-listed, place-change, place-damage}
 use Rattle.drawing.proofs.damage.place_damage.Statement.{statement}

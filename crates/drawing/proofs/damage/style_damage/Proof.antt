@@ -1,5 +1,4 @@
 -- The change is the edit: what is read after it is the item with the new style. Assumes nothing.
-use borrow.Author.Needs.{needs}
 use Rattle.drawing.proofs.Changes.{edit-listed, style-eight, style-change, style-damage}
 use Rattle.drawing.proofs.damage.style_damage.Statement.{statement}
 use Rattle.drawing.proofs.damage.style_damage.Tie as tie

@@ -1,5 +1,4 @@
 -- The change is the edit: what is read after it is the item with the new text. Assumes nothing.
-use borrow.Author.Needs.{needs}
 use Rattle.drawing.proofs.Changes.{edit-listed, text-change, text-damage}
 use Rattle.drawing.proofs.damage.text_damage.Statement.{statement}
 use Rattle.drawing.proofs.damage.text_damage.Tie as tie
