@@ -6,6 +6,7 @@ CHECK is the program of tests/host/check.c: it answers station_check for many sh
 test; the exit status is 1 if one failed.
 """
 import collections
+import os
 import pathlib
 import random
 import re
@@ -405,6 +406,27 @@ def test_errors_of_commands(folder):
     same("explain of a refused sheet", sheet_tool("explain", cut),
          Run(1, f"{cut}: refused with 1 at byte 20: the length field says 1991 bytes, and the file has 1990\n", ""))
     return f"{len(runs)} commands"
+
+
+def test_errors_of_output(_):
+    """A full output, and one that has no Greek."""
+    words = [sys.executable, str(ROOT / "tools/sheet"), "show", str(ROOT / "samples/greek.sheet")]
+    with open("/dev/full", "wb") as full:
+        run = subprocess.run(words, stdout=full, stderr=subprocess.PIPE, check=False)
+    expect_error(Run(run.returncode, "", run.stderr.decode("utf-8")), 2, "standard output")
+    run = subprocess.run(words, capture_output=True, check=False, env={**os.environ, "PYTHONIOENCODING": "ascii"})
+    same("status and errors in ASCII", (run.returncode, run.stderr), (0, b""))
+
+
+def test_description_of_readme(folder):
+    """The description in README.md builds a sheet."""
+    blocks = re.findall(r"(?:^(?:    .*)?\n)+", (ROOT / "README.md").read_text(encoding="utf-8"), re.M)
+    block = next(b for b in blocks if "    [frame]" in b)
+    shutil.copytree(ROOT / "samples/fonts", folder / "fonts")
+    (folder / "a.toml").write_text(block, encoding="utf-8")
+    run = sheet_tool("new", folder / "a.toml", folder / "a.sheet")
+    same("status and errors", (run.status, run.err), (0, ""))
+    same("named items", run.out.split("\n")[1], "item 0: discharge")
 
 
 def test_view_without_program(folder):
