@@ -66,8 +66,9 @@ declarations() {
   python3 tests/host/declarations.py >"$out/declarations.c" && "$1" -std=gnu11 -Wall -Wextra -Werror -Iinclude -c "$out/declarations.c" -o "$out/declarations.o"
 }
 
-layout() {
-  "$1" -std=c99 "$2" "${warnings[@]}" tests/host/layout.c "$archive" -o "$out/layout" && "$out/layout"
+# replies COMPILER STANDARD LANGUAGE OPTIMISATION: each field of each reply stands where the header has it.
+replies() {
+  "$1" "-std=$2" "$4" "${warnings[@]}" -x "$3" tests/host/layout.c -x none "$archive" -o "$out/layout" && "$out/layout"
 }
 
 # logger COMPILER OPTIMISATION: what it prints and the page that it writes are the stored ones.
@@ -75,12 +76,6 @@ logger() {
   "$1" -std=c99 "$2" "${warnings[@]}" examples/logger/main.c "$archive" -o "$out/logger" &&
     rm -f "$out/page.pgm" && "$out/logger" samples/hydrograph.sheet "$out/page.pgm" >"$out/stdout" &&
     diff examples/logger/stdout "$out/stdout" && cmp examples/logger/page.pgm "$out/page.pgm"
-}
-
-# linked COMPILER: a C++ program links to the archive.
-linked() {
-  "$1" -std=c++17 -O2 "${warnings[@]}" -x c++ tests/host/check.c -x none "$archive" -o "$out/linked" &&
-    [ "$(printf '\30\0\0\0' | cat - samples/smallest.sheet | "$out/linked")" = 0 ]
 }
 
 mkdir -p "$out"
@@ -95,11 +90,11 @@ for name in gcc clang; do
 done
 for name in g++ clang++; do
   try "header as C++17, $name" header "$name" c++17 c++
-  try "linked from C++, $name" linked "$name"
+  try "replies in C++17, $name -O2" replies "$name" c++17 c++ -O2
 done
 for name in gcc clang; do
   for optimisation in -O0 -O2; do
-    try "replies, $name $optimisation" layout "$name" "$optimisation"
+    try "replies in C99, $name $optimisation" replies "$name" c99 c "$optimisation"
     try "logger, $name $optimisation" logger "$name" "$optimisation"
   done
 done

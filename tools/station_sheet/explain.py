@@ -1,9 +1,9 @@
 """Why a sheet is refused: the number of document 01's table, the byte, and the cause. The tests run in document 01's order."""
 from collections import namedtuple
 
-from .layout import (ALIGNMENTS, BASELINES, EDITION, FONT_SIZE, HEADER_SIZE, HEIGHT_KINDS, ITEM_SIZE, MOST_AREA, MOST_ATLAS_WIDTH, MOST_BYTES,
-                     MOST_CELL, MOST_FONTS, MOST_HEIGHT, MOST_ITEMS, MOST_SIDE, MOST_SLOT, MOST_SPELLED, font_of, font_record, header_of,
-                     item_of, item_record, run_length, spelled)
+from .layout import (ALIGNMENTS, BASELINES, EDITION, HEADER_SIZE, HEIGHT_KINDS, MOST_AREA, MOST_ATLAS_WIDTH, MOST_BYTES, MOST_CELL, MOST_FONTS,
+                     MOST_HEIGHT, MOST_ITEMS, MOST_SIDE, MOST_SLOT, MOST_SPELLED, font_of, font_record, header_of, item_of, item_record,
+                     run_length, spelled)
 
 # The byte is the first of the field, sequence or tail that is at fault.
 Refusal = namedtuple("Refusal", "number byte cause")
