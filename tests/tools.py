@@ -338,7 +338,7 @@ DESCRIPTION_ERRORS = [
     ("slot = 8", "slot = 257", "from 0 to 256"), ("slot = 8", "slot = 8\nfont = \"large\"", "no font 'large'"),
     ("slot = 8", 'slot = 8\nalignment = "middle"', "left, centre, right"), ("slot = 8", 'slot = 8\nbaseline = "low"', "top, bottom, middle, alphabetic"),
     ("slot = 8", 'slot = 8\nline_height = "12"', "line_height"), ("slot = 8", "slot = 8\nline_height = 1001", "from 0 to 1000"),
-    ('[[font]]\nname = "plain"\nfile = "FONT"', "", "no font ''"), ("slot = 8", "slot = 8" + '\n[[item]]\nx = 0\ny = 0\ntext = ""' * 64, "refused with 4"),
+    ('[[font]]\nname = "plain"\nfile = "FONT"', "", "needs a font"), ("slot = 8", "slot = 8" + '\n[[item]]\nx = 0\ny = 0\ntext = ""' * 64, "refused with 4"),
 ]
 FONT = "cell 2 3\nreplacement U+0041\nglyph U+0041 A\n.#\n##\n.#\n"
 FONT_ERRORS = [

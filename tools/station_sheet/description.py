@@ -120,7 +120,9 @@ def read_item_entry(entries, number, fonts, styles):
     if len(text) > slot:
         raise Problem(f"{item.name}: the text has {len(text)} bytes, and its slot {slot}")
     names = [name for name, _ in fonts]
-    name = item.string("font", names[0] if names else "")
+    if not names:
+        raise Problem(f"{item.name}: an item needs a font, and the description has none")
+    name = item.string("font", names[0])
     if name not in names:
         raise Problem(f"{item.name}: there is no font '{name}'")
     font = names.index(name)

@@ -35,7 +35,7 @@ def length_refusals(sheet):
     if header.length != len(sheet):
         yield Refusal(1, 20, f"the length field says {header.length} bytes, and the file has {len(sheet)}")
     if header.zero != 0:
-        yield Refusal(1, 10, f"the header's zero field is {header.zero}")
+        yield Refusal(1, 10, f"the header's zero field is {header.zero}, and must be 0")
 
 
 def header_refusals(header):
@@ -91,7 +91,7 @@ def font_refusals(sheet, number):
         if value > most:
             yield Refusal(6, record + byte, f"font {number}'s {name} is {value}, above {most}")
     if font.zero != 0:
-        yield Refusal(6, record + 26, f"font {number}'s zero field is {font.zero}")
+        yield Refusal(6, record + 26, f"font {number}'s zero field is {font.zero}, and must be 0")
     mapping = sheet[font.mapping_at:font.mapping_at + font.mapping_length]
     fault = ill_formed(mapping)
     if fault is not None:
@@ -114,7 +114,7 @@ def item_refusals(sheet, header, number):
     if item.text_length > item.slot_size:
         yield Refusal(9, record + 10, f"item {number}'s text has {item.text_length} bytes, and its slot {item.slot_size}")
     if item.font >= header.fonts:
-        yield Refusal(9, record + 12, f"item {number}'s font is {item.font}, and the sheet has {header.fonts}, counted from 0")
+        yield Refusal(9, record + 12, f"item {number}'s font number is {item.font}, and the sheet's fonts are {header.fonts}, numbered from 0")
     for byte, name, value, most in ((13, "text mode", item.text_mode, 1), (15, "background mode", item.background_mode, 1),
                                     (17, "underline mode", item.underline_mode, 2), (19, "strikethrough mode", item.strikethrough_mode, 2),
                                     (21, "alignment", item.alignment, len(ALIGNMENTS) - 1), (22, "baseline", item.baseline, len(BASELINES) - 1),
@@ -124,7 +124,7 @@ def item_refusals(sheet, header, number):
     if item.height_value > MOST_HEIGHT:
         yield Refusal(9, record + 24, f"item {number}'s height value is {item.height_value}, above {MOST_HEIGHT}")
     if item.zero != 0:
-        yield Refusal(9, record + 26, f"item {number}'s zero field is {item.zero}")
+        yield Refusal(9, record + 26, f"item {number}'s zero field is {item.zero}, and must be 0")
     end = item.slot_at + item.text_length
     for byte in range(end, item.slot_at + item.slot_size):
         if sheet[byte] != 0:
