@@ -3,7 +3,8 @@
 Usage: python3 tests/host/declarations.py > FILE.c
 
 Of each #[repr(C)] struct the file asserts the size and each field's offset, size and sign; each exported function is assigned to a
-pointer of the type that its Rattle signature has in C. A name that only one of the two has is a fault, said on standard error.
+pointer of the type that its Rattle signature has in C. A name that only one of the two has, of a struct, a function or a parameter, is a
+fault, said on standard error. A slice NAME is the parameters NAME and NAME_length in C.
 """
 import pathlib
 import re
@@ -25,9 +26,22 @@ def structs(source):
 
 
 def functions(source):
-    """Each exported function's name, the types of its parameters, and the type of its reply."""
+    """Each exported function's name, the names and types of its parameters, and the type of its reply."""
     for name, parameters, reply in re.findall(r'#\[no_mangle\]\s*pub extern "C" fn (\w+)\((.*?)\)\s*->\s*(\w+)', source, re.S):
-        yield name, re.findall(r"\w+: ([^,]+?)\s*(?:,|$)", parameters.strip()), reply
+        yield name, re.findall(r"(\w+): ([^,]+?)\s*(?:,|$)", parameters.strip()), reply
+
+
+def parameter_names(parameters):
+    """The names that the parameters have in C."""
+    for name, kind in parameters:
+        yield name
+        if kind.endswith("[u8]"):
+            yield name + "_length"
+
+
+def declarations(header):
+    """The names of each declared function's parameters, by its name."""
+    return {name: re.findall(r"(\w+)\s*(?:,|$)", parameters) for name, parameters in re.findall(r"\b(station_\w+)\(([^)]*)\);", header)}
 
 
 def struct_lines(name, fields):
@@ -47,17 +61,20 @@ def struct_lines(name, fields):
 def main():
     source = (ROOT / "crates/station/src/lib.rt").read_text(encoding="utf-8")
     header = re.sub(r"/\*.*?\*/", "", (ROOT / "include/station.h").read_text(encoding="utf-8"), flags=re.S)
-    exported, declared = {name for name, _, _ in functions(source)}, set(re.findall(r"\b(station_\w+)\(", header))
+    exported, declared = {name for name, _, _ in functions(source)}, set(declarations(header))
     replied, defined = {c_name(name) for name, _ in structs(source)}, set(re.findall(r"\}\s*(station_\w+);", header))
     for name in sorted((exported ^ declared) | (replied ^ defined)):
         where = "crates/station/src/lib.rt" if name in exported | replied else "include/station.h"
         sys.exit(f"declarations: only {where} has {name}")
+    for name, parameters, _ in functions(source):
+        if declarations(header)[name] != list(parameter_names(parameters)):
+            sys.exit(f"declarations: the parameters of {name} have other names in include/station.h")
     lines = ["#include <station.h>", ""]
     for name, fields in structs(source):
         lines += [*struct_lines(name, fields), ""]
     for name, parameters, reply in functions(source):
         kind = PARAMETERS.get(reply) or c_name(reply)
-        lines.append(f"{kind} (*const {name}_as_exported)({', '.join(PARAMETERS[p] for p in parameters)}) = {name};")
+        lines.append(f"{kind} (*const {name}_as_exported)({', '.join(PARAMETERS[kind] for _, kind in parameters)}) = {name};")
     print("\n".join(lines))
 
 
