@@ -181,7 +181,7 @@ def compare_with_library(sheets):
 
 
 def ill_formed_byte(sheet, near):
-    """In the mapping or text that holds a byte: where the longest well-formed part ends, by RFC 3629's syntax."""
+    """In the mapping or text that holds a byte: where its well-formed part ends, by RFC 3629's syntax."""
     fonts, items = sheet[7], stored_sheets.number(sheet, 8, 2)
     pieces = [struct.unpack_from("<IH", sheet, 24 + 28 * k + 8) for k in range(fonts)]
     for k in range(items):
@@ -189,8 +189,15 @@ def ill_formed_byte(sheet, near):
         pieces.append((slot, length))
     for start, length in pieces:
         if start <= near < start + length:
-            return start + max(k for k in range(length) if stored_sheets.characters(sheet[start:start + k]) is not None)
+            return start + well_formed_length(sheet[start:start + length])
     return None
+
+
+def well_formed_length(text):
+    at = 0
+    while size := next((n for n in range(1, 5) if at + n <= len(text) and stored_sheets.characters(text[at:at + n]) is not None), 0):
+        at += size
+    return at
 
 
 def stored():
