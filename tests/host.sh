@@ -1,0 +1,117 @@
+#!/usr/bin/env bash
+# Tests what a host in C and the people at a desk use: include/station.h, examples/logger, samples/ and tools/sheet, on libstation.a.
+#
+#   tests/host.sh
+#
+# Each test prints 'ok NAME' or 'FAILED NAME'; the last line is 'N passed, M failed', and the exit status is 1 if one failed. A compiler that
+# is missing is installed if that is possible. The archive is made if it is missing or older than the crates, and station_page if it is
+# missing.
+set -uo pipefail
+cd "$(dirname "$0")/.."
+
+out=target/host
+archive=target/staticlib/libstation.a
+warnings=(-Wall -Wextra -Wpedantic -Wconversion -Werror -Iinclude)
+passed=0
+failed=0
+
+# Counts a test by its line.
+count() {
+  case $1 in
+    ok\ *) passed=$((passed + 1)) ;;
+    *) failed=$((failed + 1)) ;;
+  esac
+  printf '%s\n' "$1"
+}
+
+# try NAME COMMAND..: the test is the command's exit status; what it wrote is printed if it failed.
+try() {
+  local name=$1
+  shift
+  if "$@" >"$out/log" 2>&1; then
+    count "ok $name"
+  else
+    count "FAILED $name"
+    sed 's/^/    /' "$out/log"
+  fi
+}
+
+# Whether a compiler is there, after an attempt to install it.
+has_compiler() {
+  local name=$1 package=${1/clang++/clang} root=()
+  command -v "$name" && return
+  [ "$(id -u)" = 0 ] || root=(sudo -n)
+  "${root[@]}" env DEBIAN_FRONTEND=noninteractive apt-get install -y -qq "$package" ||
+    { "${root[@]}" apt-get update -qq && "${root[@]}" env DEBIAN_FRONTEND=noninteractive apt-get install -y -qq "$package"; }
+  command -v "$name"
+}
+
+make_archive() {
+  if [ ! -f "$archive" ] || [ -n "$(find crates crates.txt -newer "$archive" \( -name '*.rt' -o -name crates.txt \) -print -quit)" ]; then
+    rt staticlib station
+  fi
+}
+
+make_program() {
+  [ -x target/bin/station_page ] || rt check station_page
+}
+
+# header COMPILER STANDARD LANGUAGE: the header alone, and twice, without a warning.
+header() {
+  printf '#include "station.h"\n#include "station.h"\n' | "$1" "-std=$2" "${warnings[@]}" -fsyntax-only -x "$3" -
+}
+
+# declarations COMPILER: sizes, offsets and signatures as crates/station/src/lib.rt has them.
+declarations() {
+  python3 tests/host/declarations.py >"$out/declarations.c" && "$1" -std=gnu11 -Wall -Wextra -Werror -Iinclude -c "$out/declarations.c" -o "$out/declarations.o"
+}
+
+# replies COMPILER STANDARD LANGUAGE OPTIMISATION: each field of each reply stands where the header has it.
+replies() {
+  "$1" "-std=$2" "$4" "${warnings[@]}" -x "$3" tests/host/layout.c -x none "$archive" -o "$out/layout" && "$out/layout"
+}
+
+# logger COMPILER OPTIMISATION: what it prints and the page that it writes are the stored ones.
+logger() {
+  "$1" -std=c99 "$2" "${warnings[@]}" examples/logger/main.c "$archive" -o "$out/logger" &&
+    rm -f "$out/page.pgm" && "$out/logger" samples/hydrograph.sheet "$out/page.pgm" >"$out/stdout" &&
+    diff examples/logger/stdout "$out/stdout" && cmp examples/logger/page.pgm "$out/page.pgm"
+}
+
+mkdir -p "$out"
+try "libstation.a" make_archive
+try "station_page" make_program
+for name in gcc g++ clang clang++; do
+  try "compiler $name" has_compiler "$name"
+done
+for name in gcc clang; do
+  try "header as C99, $name" header "$name" c99 c
+  try "declarations as exported, $name" declarations "$name"
+done
+for name in g++ clang++; do
+  try "header as C++17, $name" header "$name" c++17 c++
+  try "replies in C++17, $name -O2" replies "$name" c++17 c++ -O2
+done
+for name in gcc clang; do
+  for optimisation in -O0 -O2; do
+    try "replies in C99, $name $optimisation" replies "$name" c99 c "$optimisation"
+    try "logger, $name $optimisation" logger "$name" "$optimisation"
+  done
+done
+
+rm -f "$out/check"
+for name in gcc clang; do
+  [ -x "$out/check" ] || "$name" -std=c99 -O2 "${warnings[@]}" tests/host/check.c "$archive" -o "$out/check" 2>"$out/log" || true
+done
+python3 tests/tools.py "$out/check" >"$out/tools" 2>"$out/tools.log"
+status=$?
+while IFS= read -r line; do
+  count "$line"
+done <"$out/tools"
+if [ "$status" -gt 1 ] || [ -s "$out/tools.log" ] || ! [ -s "$out/tools" ]; then
+  count "FAILED tools: the tests of tests/tools.py did not run to their end"
+  sed 's/^/    /' "$out/tools.log"
+fi
+
+echo "$passed passed, $failed failed"
+[ "$failed" = 0 ]

@@ -1,0 +1,482 @@
+"""Tests of tools/sheet, the samples and the table of refusals.
+
+Usage: python3 tests/tools.py CHECK
+
+CHECK is the program of tests/host/check.c: it answers station_check for many sheets. Prints 'ok NAME' or 'FAILED NAME: why' for each
+test; the exit status is 1 if one failed.
+"""
+import collections
+import os
+import pathlib
+import random
+import re
+import shutil
+import struct
+import subprocess
+import sys
+import tempfile
+import zlib
+
+sys.dont_write_bytecode = True
+ROOT = pathlib.Path(__file__).resolve().parents[1]
+sys.path[:0] = [str(ROOT / "tools"), str(ROOT / "tests")]
+
+import stored_sheets  # noqa: E402
+from station_sheet.explain import explain  # noqa: E402
+
+SAMPLES = sorted((ROOT / "samples").glob("*.toml"))
+SEED = 4127
+DAMAGES = 6_000
+
+Run = collections.namedtuple("Run", "status out err")
+
+
+def sheet_tool(*words, tool=ROOT / "tools" / "sheet"):
+    """One run of tools/sheet."""
+    run = subprocess.run([sys.executable, str(tool), *map(str, words)], capture_output=True, check=False)
+    return Run(run.returncode, run.stdout.decode("utf-8"), run.stderr.decode("utf-8"))
+
+
+def same(what, got, expected):
+    if got != expected:
+        raise AssertionError(f"{what}: {got!r}, and {expected!r} is expected")
+
+
+def page_of(sheet):
+    return subprocess.run([ROOT / "target/bin/station_page"], input=sheet, capture_output=True, check=True).stdout
+
+
+# ---- samples
+
+def test_samples_rebuilt(folder):
+    for description in SAMPLES:
+        new = folder / "new.sheet"
+        run = sheet_tool("new", description, new)
+        same(f"{description.name}: status and errors", (run.status, run.err), (0, ""))
+        if new.read_bytes() != description.with_suffix(".sheet").read_bytes():
+            raise AssertionError(f"{description.name} does not give the stored sheet")
+
+
+def test_samples_drawn(_):
+    for description in SAMPLES:
+        if page_of(description.with_suffix(".sheet").read_bytes()) != description.with_suffix(".pgm").read_bytes():
+            raise AssertionError(f"{description.stem}.sheet does not give the stored page")
+
+
+def test_samples_explained(_):
+    for description in SAMPLES:
+        sheet = description.with_suffix(".sheet")
+        same(f"explain {sheet.name}", sheet_tool("explain", sheet), Run(0, f"{sheet}: accepted\n", ""))
+
+
+def test_ascii_is_complete(_):
+    glyphs = re.findall(r"^glyph U\+([0-9A-F]+)", (ROOT / "samples/fonts/plain-6x10.txt").read_text(encoding="utf-8"), re.M)
+    missing = set(range(0x20, 0x7F)) - {int(g, 16) for g in glyphs}
+    same("printable ASCII without a glyph", missing, set())
+
+
+# ---- show
+
+def test_show(_):
+    for description in SAMPLES:
+        sheet = description.with_suffix(".sheet").read_bytes()
+        run = sheet_tool("show", description.with_suffix(".sheet"))
+        same(f"show {description.stem}: status and errors", (run.status, run.err), (0, ""))
+        lines = run.out.split("\n")
+        fonts, items = sheet[7], stored_sheets.number(sheet, 8, 2)
+        same("lines", len(lines), 2 + 4 * fonts + 3 * items + 1)
+        for k in range(fonts):
+            o = 24 + 28 * k
+            same("font", lines[2 + 4 * k].split(",")[0], f"font {k} at {o}: cell {sheet[o + 18]} by {sheet[o + 19]}")
+            for line, at, size in ((4, 0, 4), (5, 8, 2)):
+                start = f"    {'atlas' if line == 4 else 'mapping'} at {stored_sheets.number(sheet, o + at, 4)}: "
+                same("piece", lines[line + 4 * k].startswith(start + f"{stored_sheets.number(sheet, o + at + 4, size)} bytes"), True)
+        for k in range(items):
+            o = 24 + 28 * fonts + 28 * k
+            x, y, slot, size, length = struct.unpack_from("<hhIHH", sheet, o)
+            record, style, text = lines[2 + 4 * fonts + 3 * k:][:3]
+            same("item", record.startswith(f"item {k} at {o}: x {x}, y {y}, font {sheet[o + 12]}, "), True)
+            same("style", style.startswith(f"    style at {o + 13}: text {sheet[o + 14] if sheet[o + 13] else 'none'}, "), True)
+            stored = sheet[slot:slot + length].decode("utf-8").replace("\n", "\\n")
+            same("text", text, f'    slot at {slot}: {size} bytes, text {length} bytes: "{stored}"')
+
+
+def test_show_refused(folder):
+    sheet = bytearray((ROOT / "samples/greek.sheet").read_bytes())
+    sheet[52 + 28 + 21] = 7
+    (folder / "bad.sheet").write_bytes(sheet)
+    run = sheet_tool("show", folder / "bad.sheet")
+    same("status", run.status, 1)
+    same("what can be shown", "font 0, code 7, Top" in run.out, True)
+    same("error", run.err, f"sheet: {folder / 'bad.sheet'}: refused with 9 at byte 101: item 1's alignment is 7, and the codes are 0 to 2\n")
+
+
+# ---- view
+
+def png_greys(data):
+    """The width, the height and the greys of a PNG of 8-bit grey whose rows have the filters 0 and 2."""
+    same("signature", data[:8], b"\x89PNG\r\n\x1a\n")
+    at, chunks = 8, {}
+    while at < len(data):
+        size, kind = struct.unpack_from(">I4s", data, at)
+        body = data[at + 8:at + 8 + size]
+        same("checksum", struct.unpack_from(">I", data, at + 8 + size)[0], zlib.crc32(kind + body))
+        chunks[kind] = body
+        at += 12 + size
+    width, height, *kinds = struct.unpack(">IIBBBBB", chunks[b"IHDR"])
+    same("kinds", kinds, [8, 0, 0, 0, 0])
+    rows, above = zlib.decompress(chunks[b"IDAT"]), bytes(width)
+    same("bytes of all rows", len(rows), height * (width + 1))
+    greys = b""
+    for y in range(height):
+        row = rows[y * (width + 1):(y + 1) * (width + 1)]
+        above = row[1:] if row[0] == 0 else bytes((a + b) % 256 for a, b in zip(row[1:], above))
+        greys += above
+    return width, height, greys
+
+
+def scaled(page, scale):
+    head, width, height = page.split(b"\n")[0], *map(int, page.split(b"\n")[1].split())
+    same("page", head, b"P5")
+    greys = page[len(page) - width * height:]
+    rows = [bytes(g for g in greys[y * width:(y + 1) * width] for _ in range(scale)) for y in range(height)]
+    return width * scale, height * scale, b"".join(row for row in rows for _ in range(scale))
+
+
+def test_view(folder):
+    for description in SAMPLES:
+        sheet, page = description.with_suffix(".sheet"), description.with_suffix(".pgm")
+        for scale, words in ((1, ()), (3, ("--scale", 3)), (1, ("--page", page))):
+            png = folder / "page.png"
+            same(f"view {sheet.name}", sheet_tool("view", sheet, png, *words), Run(0, "", ""))
+            if png_greys(png.read_bytes()) != scaled(page.read_bytes(), scale):
+                raise AssertionError(f"{sheet.name}: the PNG at scale {scale} has other greys than the page")
+
+
+def test_picture(_):
+    if png_greys((ROOT / "docs/page.png").read_bytes()) != scaled((ROOT / "samples/hydrograph.pgm").read_bytes(), 2):
+        raise AssertionError("docs/page.png is not the page of samples/hydrograph.sheet at scale 2")
+
+
+# ---- explain: the number as station_check answers it, and the byte
+
+def library_codes(sheets):
+    data = b"".join(struct.pack("<I", len(b)) + b for b in sheets)
+    run = subprocess.run([sys.argv[1]], input=data, capture_output=True, check=True)
+    return [int(line) for line in run.stdout.split()]
+
+
+def compare_with_library(sheets):
+    """Holds each sheet's explanation to the library's code; gives how often each code was met."""
+    codes = library_codes(sheets)
+    same("answers", len(codes), len(sheets))
+    for k, (sheet, code) in enumerate(zip(sheets, codes)):
+        refusal = explain(sheet)
+        same(f"sheet {k}, explained", refusal.number if refusal else 0, code)
+        if refusal:
+            same(f"sheet {k}, byte in the file or at its end", 0 <= refusal.byte <= len(sheet), True)
+        if code in (7, 10):
+            same(f"sheet {k}, byte", refusal.byte, ill_formed_byte(sheet, refusal.byte))
+    return collections.Counter(codes)
+
+
+def ill_formed_byte(sheet, near):
+    """In the mapping or text that holds a byte: where its well-formed part ends, by RFC 3629's syntax."""
+    fonts, items = sheet[7], stored_sheets.number(sheet, 8, 2)
+    pieces = [struct.unpack_from("<IH", sheet, 24 + 28 * k + 8) for k in range(fonts)]
+    for k in range(items):
+        slot, _, length = struct.unpack_from("<IHH", sheet, 24 + 28 * fonts + 28 * k + 4)
+        pieces.append((slot, length))
+    for start, length in pieces:
+        if start <= near < start + length:
+            return start + well_formed_length(sheet[start:start + length])
+    return None
+
+
+def well_formed_length(text):
+    at = 0
+    while size := next((n for n in range(1, 5) if at + n <= len(text) and stored_sheets.characters(text[at:at + n]) is not None), 0):
+        at += size
+    return at
+
+
+def stored():
+    """The sheets of crates/stored_sheets/stdin; the last record is cut."""
+    data = (ROOT / "crates/stored_sheets/stdin").read_bytes()
+    at, sheets = 0, []
+    while (size := stored_sheets.number(data, at, 4)) <= len(data):
+        sheets.append(data[at + 4:at + 4 + size])
+        at += 4 + size
+    return sheets
+
+
+def test_explain_stored_sheets(_):
+    sheets = stored()
+    counts = compare_with_library(sheets)
+    lines = (ROOT / "crates/stored_sheets/stdout").read_text(encoding="utf-8").splitlines()
+    numbers = [int(line.split()[2]) if "refused" in line else 0 for line in lines if line != "cut"]
+    same("stored answers", [explain(b).number if explain(b) else 0 for b in sheets], numbers)
+    same("every code met", sorted(counts), list(range(11)))
+    return f"{len(sheets)} sheets"
+
+
+FAULTY_SEQUENCES = [bytes.fromhex(code) for code in stored_sheets.BAD]
+
+
+def damaged(sheet, chance):
+    """A sheet with one random damage."""
+    b = bytearray(sheet)
+    fonts, items = b[7], stored_sheets.number(b, 8, 2)
+    records = min(len(b), 24 + 28 * fonts + 28 * items)
+    kind = chance.randrange(9)
+    if kind == 0:
+        b[chance.randrange(len(b))] = chance.randrange(256)
+    elif kind == 1:
+        b[chance.randrange(records)] = chance.choice((0, 1, 2, 3, 4, 5, 64, 65, 127, 128, 255))
+    elif kind == 2:
+        at, size = chance.randrange(records - 1), chance.choice((2, 4))
+        value = stored_sheets.number(b, at, size) + chance.choice((-1, 1, 256, -256))
+        b[at:at + size] = (value % 256 ** size).to_bytes(size, "little")
+    elif kind == 3:
+        b = b[:chance.randrange(len(b))] if chance.random() < 0.5 else b + bytes(chance.randrange(1, 40))
+        if len(b) >= 24 and chance.random() < 0.7:
+            b[20:24] = len(b).to_bytes(4, "little")
+    elif kind in (4, 5):
+        at, size = chance.choice(pieces_of(b))
+        part = chance.choice(FAULTY_SEQUENCES)
+        if len(part) <= size:
+            start = at + chance.randrange(size - len(part) + 1)
+            b[start:start + len(part)] = part
+    elif kind == 6 and fonts:
+        at, size = struct.unpack_from("<IH", b, 24 + 28 * chance.randrange(fonts) + 8)
+        span = stored_sheets.span(chance.randrange(0x800), chance.choice((0xFFFF, 0x10000, 0x10800, 0x1FFFF, 0x10FFFF)))
+        if len(span) <= size <= len(b):
+            start = at + chance.randrange(size - len(span) + 1)
+            b[start:start + len(span)] = span
+    elif kind == 7 and fonts:
+        b[24 + 28 * chance.randrange(fonts) + chance.randrange(14, 28)] = chance.choice((0, 1, 4, 5, 64, 65, 255))
+    elif items:
+        o = 24 + 28 * fonts + 28 * chance.randrange(items)
+        b[o + 10:o + 12] = chance.randrange(300).to_bytes(2, "little")
+    return bytes(b)
+
+
+def pieces_of(b):
+    """Where the mappings and slots stand, or the header if there are none."""
+    fonts, items = b[7], stored_sheets.number(b, 8, 2)
+    found = [struct.unpack_from("<IH", b, 24 + 28 * k + 8) for k in range(fonts)]
+    found += [struct.unpack_from("<IH", b, 24 + 28 * fonts + 28 * k + 4) for k in range(items)]
+    return found or [(0, 24)]
+
+
+def test_explain_damaged_samples(_):
+    chance = random.Random(SEED)
+    samples = [description.with_suffix(".sheet").read_bytes() for description in SAMPLES]
+    sheets = []
+    for k in range(DAMAGES):
+        sheet = damaged(samples[k % len(samples)], chance)
+        if k % 5 == 0 and len(sheet) >= 24 and sheet[7] <= 4 and stored_sheets.check(sheet) in (0, 6, 7, 8, 9, 10):
+            sheet = damaged(sheet, chance)
+        sheets.append(sheet)
+    counts = compare_with_library(sheets)
+    same("every code met", sorted(counts), list(range(11)))
+    return f"{DAMAGES} sheets, seed {SEED}; " + ", ".join(f"{counts[n]} with {n}" for n in range(11))
+
+
+def test_explain_bytes(_):
+    """A change of the Greek sample, the refusal, and the byte. It has 1 font at 24 and 11 items at 52."""
+    sheet = (ROOT / "samples/greek.sheet").read_bytes()
+    mapping, slot = stored_sheets.number(sheet, 32, 4), stored_sheets.number(sheet, 52 + 28 + 4, 4)
+    long_span = stored_sheets.span(0x10000, 0x20000)
+    changes = [
+        (20, b"\0", 1, 20), (21, b"\0", 1, 20), (11, b"\1", 1, 10), (0, b"\2", 2, 0), (1, b"\1", 2, 0), (3, b"\3", 3, 2), (4, b"\0", 3, 4),
+        (2, b"\0\2\0\1", 3, 2), (7, b"\5", 4, 7), (8, b"\x41", 4, 8), (12, b"\x19", 5, 12), (17, b"\1", 5, 16), (24, b"\1", 5, 24), (28, b"\x81", 5, 32),
+        (34, b"\1", 5, 32), (36, b"\0", 5, 56), (52 + 4, b"\0", 5, 56), (52 + 8, b"\0", 5, 84), (52 + 280 + 9, b"\1", 5, 340), (41, b"\5", 6, 40),
+        (42, b"\x41", 6, 42), (43, b"\x41", 6, 43), (44, b"\x41", 6, 44), (51, b"\1", 6, 50), (mapping, b"\xff", 7, mapping),
+        (mapping + 1, b"\x80", 7, mapping + 1), (mapping, b"AB" + long_span, 8, mapping + 2), (80 + 10, b"\xff", 9, 90), (80 + 12, b"\1", 9, 92),
+        (80 + 13, b"\2", 9, 93), (80 + 15, b"\2", 9, 95), (80 + 17, b"\3", 9, 97), (80 + 19, b"\3", 9, 99), (80 + 21, b"\3", 9, 101),
+        (80 + 22, b"\4", 9, 102), (80 + 23, b"\2", 9, 103), (80 + 25, b"\4", 9, 104), (80 + 27, b"\1", 9, 106), (slot + 45, b"\1", 9, slot + 45),
+        (slot + 2, b"\xed\xa0\x80", 10, slot + 2),
+    ]
+    sheets = []
+    for at, part, number, byte in changes:
+        b = sheet[:at] + part + sheet[at + len(part):]
+        refusal = explain(b)
+        same(f"bytes {at} on", (refusal.number, refusal.byte) if refusal else None, (number, byte))
+        sheets.append(b)
+    for b, byte in ((sheet[:10], 10), (b"", 0), (sheet + bytes(65536), 65536)):
+        same(f"a file of {len(b)}", explain(b)[:2], (1, byte))
+    grown = sheet[:20] + (len(sheet) + 3).to_bytes(4, "little") + sheet[24:] + b"\0\0\0"
+    same("bytes past the last slot", explain(grown)[:2], (5, len(sheet)))
+    compare_with_library(sheets + [grown])
+    return f"{len(changes) + 4} bytes"
+
+
+# ---- errors
+
+GOOD = '''[frame]
+width = 60
+height = 20
+paper = 255
+[[font]]
+name = "plain"
+file = "FONT"
+[style.label]
+text_grey = 0
+[[item]]
+style = "label"
+x = 1
+y = 2
+text = "level"
+slot = 8
+'''
+# A change of the description, and words of the error.
+DESCRIPTION_ERRORS = [
+    ("[frame]", "[frame", "no TOML"), ("width = 60", "", "'width' is missing"), ("width = 60", "width = 0", "from 1 to 512"),
+    ("width = 60", "width = true", "whole number"), ("width = 60", "width = 6.5", "whole number"), ("paper = 255", "paper = 256", "from 0 to 255"),
+    ("width = 60\nheight = 20", "width = 512\nheight = 200", "refused with 3"), ("paper = 255", "ink = 1", "'ink' is no key"),
+    ('name = "plain"', "name = 5", "must be a string"), ('"FONT"', '"nothing.txt"', "No such file"), ("[[font]]", "[font]", "[[font]]"),
+    ('file = "FONT"', 'file = "FONT"\ncolumns = 200', "above 1024"), ("[style.label]", "[style]", "style 'text_grey' must be a table"),
+    ("text_grey = 0", 'text_grey = "black"', "whole number"), ("text_grey = 0", "underline = \"own\"", "a grey or"),
+    ("text_grey = 0", "text = 5", "'text' is no key"), ('style = "label"', 'style = "titel"', "no style 'titel'"), ("x = 1", "", "'x' is missing"),
+    ("x = 1", "x = 40000", "from -32768 to 32767"), ('text = "level"', "", "'text' is missing"),
+    ('text = "level"', 'text = "level 2.31"', "10 bytes, and its slot 8"),
+    ('text = "level"', 'text = "Stufe é"', "no glyph for U+00E9"), ('text = "level"', 'lines = "level"', "'lines' is a list"),
+    ("slot = 8", "slot = 257", "from 0 to 256"), ("slot = 8", "slot = 8\nfont = \"large\"", "no font 'large'"),
+    ("slot = 8", 'slot = 8\nalignment = "middle"', "left, centre, right"), ("slot = 8", 'slot = 8\nbaseline = "low"', "top, bottom, middle, alphabetic"),
+    ("slot = 8", 'slot = 8\nline_height = "12"', "line_height"), ("slot = 8", "slot = 8\nline_height = 1001", "from 0 to 1000"),
+    ('[[font]]\nname = "plain"\nfile = "FONT"', "", "needs a font"), ("slot = 8", "slot = 8" + '\n[[item]]\nx = 0\ny = 0\ntext = ""' * 64, "refused with 4"),
+]
+FONT = "cell 2 3\nreplacement U+0041\nglyph U+0041 A\n.#\n##\n.#\n"
+FONT_ERRORS = [
+    (".#\n##", ".#\n#", "line 5: a row of glyph U+0041 has 1 columns"), ("##", "#x", "line 5: a row of glyph U+0041 has something else"),
+    (".#\n##\n.#\n", ".#\n##\n", "glyph U+0041 has 2 rows"), (".#\n##\n.#\n", ".#", "glyph U+0041 has 1 rows"), ("cell 2 3\n", "", "must come before"),
+    ("cell 2 3", "cell 2 65", "from 0 to 64"), ("cell 2 3", "cell 2", "takes 2 numbers"), ("glyph U+0041 A", "glyph 41", "'41' is no character"),
+    ("glyph U+0041 A", "glyph U+D800", "'U+D800' is no character"), ("glyph U+0041 A", "glyph", "needs its character"),
+    ("replacement U+0041", "replacement U+0042", "U+0042 has no glyph"), ("replacement", "default", "'default' is no word"),
+    ("##\n.#\n", "##\n.#\nglyph U+0041\n.#\n##\n.#\n", "there twice"),
+]
+
+
+def expect_error(run, status, words):
+    lines = run.err.split("\n")
+    same("standard output", run.out, "")
+    if run.status != status or len(lines) != 2 or lines[1] or not lines[0].startswith("sheet: ") or words not in lines[0]:
+        raise AssertionError(f"status {run.status}, {run.err!r}; status {status} and one line with {words!r} are expected")
+
+
+def test_errors_of_new(folder):
+    good = GOOD.replace("FONT", str(ROOT / "samples/fonts/plain-6x10.txt"))
+    description, out = folder / "a.toml", folder / "a.sheet"
+    description.write_text(good, encoding="utf-8")
+    same("the good description", sheet_tool("new", description, out).status, 0)
+    out.unlink()
+    for old, new, words in DESCRIPTION_ERRORS:
+        description.write_text(GOOD.replace(old, new, 1).replace("FONT", str(ROOT / "samples/fonts/plain-6x10.txt")), encoding="utf-8")
+        expect_error(sheet_tool("new", description, out), 2 if "No such" in words else 1, words)
+    description.write_bytes(b"\xff\xfe")
+    expect_error(sheet_tool("new", description, out), 1, "no TOML")
+    same("a sheet written in spite of an error", out.exists(), False)
+    return f"{len(DESCRIPTION_ERRORS) + 1} descriptions"
+
+
+def test_errors_of_fonts(folder):
+    description, font, out = folder / "b.toml", folder / "b.txt", folder / "b.sheet"
+    description.write_text('[frame]\nwidth = 8\nheight = 8\npaper = 0\n[[font]]\nfile = "b.txt"\n', encoding="utf-8")
+    font.write_text(FONT, encoding="utf-8")
+    same("the good font", sheet_tool("new", description, out).status, 0)
+    for old, new, words in FONT_ERRORS:
+        font.write_text(FONT.replace(old, new, 1), encoding="utf-8")
+        expect_error(sheet_tool("new", description, out), 1, words)
+    font.write_bytes(b"cell \xff")
+    expect_error(sheet_tool("new", description, out), 1, "UTF-8")
+    return f"{len(FONT_ERRORS) + 1} fonts"
+
+
+def test_errors_of_commands(folder):
+    sample, missing = ROOT / "samples/greek.sheet", folder / "missing"
+    cut, page = folder / "cut.sheet", folder / "bad.pgm"
+    cut.write_bytes(sample.read_bytes()[:-1])
+    page.write_bytes(b"P5\n240 160\n255\nshort")
+    runs = [
+        ((), 2, "required"), (("draw", sample), 2, "invalid choice"), (("show",), 2, "required"), (("show", missing), 2, "No such file"),
+        (("explain", missing), 2, "No such file"), (("explain", folder), 2, "directory"), (("view", missing, folder / "a.png"), 2, "No such file"),
+        (("new", missing, folder / "a.sheet"), 2, "No such file"), (("new", ROOT / "samples/greek.toml", folder / "no" / "a"), 2, "No such file"),
+        (("view", sample, folder / "no" / "a.png"), 2, "No such file"), (("view", cut, folder / "a.png"), 1, "refused with 1 at byte 20"),
+        (("view", sample, folder / "a.png", "--page", page), 1, "no page"), (("view", sample, folder / "a.png", "--page", missing), 2, "No such file"),
+        (("view", sample, folder / "a.png", "--page", sample), 1, "no page"),
+        (("view", sample, folder / "a.png", "--page", ROOT / "samples/table.pgm"), 1, "256 by 248"),
+        (("view", sample, folder / "a.png", "--scale", "0"), 2, "scale"), (("view", sample, folder / "a.png", "--scale", "big"), 2, "scale"),
+    ]
+    for words, status, expected in runs:
+        expect_error(sheet_tool(*words), status, expected)
+    same("a PNG written in spite of an error", (folder / "a.png").exists(), False)
+    same("explain of a refused sheet", sheet_tool("explain", cut),
+         Run(1, f"{cut}: refused with 1 at byte 20: the length field says 1991 bytes, and the file has 1990\n", ""))
+    return f"{len(runs)} commands"
+
+
+def test_errors_of_output(_):
+    """A full output, and one that has no Greek."""
+    words = [sys.executable, str(ROOT / "tools/sheet"), "show", str(ROOT / "samples/greek.sheet")]
+    with open("/dev/full", "wb") as full:
+        run = subprocess.run(words, stdout=full, stderr=subprocess.PIPE, check=False)
+    expect_error(Run(run.returncode, "", run.stderr.decode("utf-8")), 2, "standard output")
+    run = subprocess.run(words, capture_output=True, check=False, env={**os.environ, "PYTHONIOENCODING": "ascii"})
+    same("status and errors in ASCII", (run.returncode, run.stderr), (0, b""))
+
+
+def test_description_of_readme(folder):
+    """The description in README.md builds a sheet."""
+    blocks = re.findall(r"(?:^(?:    .*)?\n)+", (ROOT / "README.md").read_text(encoding="utf-8"), re.M)
+    block = next(b for b in blocks if "    [frame]" in b)
+    shutil.copytree(ROOT / "samples/fonts", folder / "fonts")
+    (folder / "a.toml").write_text(block, encoding="utf-8")
+    run = sheet_tool("new", folder / "a.toml", folder / "a.sheet")
+    same("status and errors", (run.status, run.err), (0, ""))
+    same("named items", run.out.split("\n")[1], "item 0: discharge")
+
+
+def test_view_without_program(folder):
+    shutil.copytree(ROOT / "tools", folder / "elsewhere" / "tools")
+    tool = folder / "elsewhere" / "tools" / "sheet"
+    run = sheet_tool("view", ROOT / "samples/greek.sheet", folder / "b.png", tool=tool)
+    expect_error(run, 2, "target/bin/station_page is missing")
+    run = sheet_tool("view", ROOT / "samples/greek.sheet", folder / "b.png", "--page", ROOT / "samples/greek.pgm", tool=tool)
+    same("view with a page", run, Run(0, "", ""))
+
+
+def test_tool_is_executable(_):
+    run = subprocess.run([ROOT / "tools/sheet", "explain", ROOT / "samples/smallest.sheet"], capture_output=True, check=False)
+    same("status", run.returncode, 0)
+
+
+# ---- the refusals' names
+
+def test_refusals(_):
+    header = (ROOT / "include/station.h").read_text(encoding="utf-8")
+    table = (ROOT / "docs/REFUSALS.md").read_text(encoding="utf-8")
+    named = [(int(n), name) for name, n in re.findall(r"^    STATION_(\w+) = (\d+),?$", header, re.M)]
+    documented = [(int(n), name) for n, name in re.findall(r"^\| (\d+) \| `(\w+)` \|", table, re.M)]
+    same("names of docs/REFUSALS.md", documented, named[1:])
+    same("numbers", [n for n, _ in named], list(range(19)))
+
+
+def main():
+    if len(sys.argv) != 2:
+        sys.exit("usage: python3 tests/tools.py CHECK")
+    failed = 0
+    for name, test in [(name, value) for name, value in globals().items() if name.startswith("test_")]:
+        with tempfile.TemporaryDirectory() as folder:
+            try:
+                said = test(pathlib.Path(folder))
+                print(f"ok {name[5:].replace('_', ' ')}" + (f" ({said})" if said else ""), flush=True)
+            except Exception as error:  # a test that stops in any way has failed
+                failed += 1
+                why = " ".join(str(error).split()) or type(error).__name__
+                print(f"FAILED {name[5:].replace('_', ' ')}: {why}", flush=True)
+    return 1 if failed else 0
+
+
+if __name__ == "__main__":
+    sys.exit(main())
