@@ -61,7 +61,7 @@ header() {
   printf '#include "station.h"\n#include "station.h"\n' | "$1" "-std=$2" "${warnings[@]}" -fsyntax-only -x "$3" -
 }
 
-# declarations COMPILER: sizes, offsets and signatures as crates/station/src/lib.rt has them.
+# declarations COMPILER: sizes, offsets and signatures as the crates have them.
 declarations() {
   python3 tests/host/declarations.py >"$out/declarations.c" && "$1" -std=gnu11 -Wall -Wextra -Werror -Iinclude -c "$out/declarations.c" -o "$out/declarations.o"
 }

@@ -1,4 +1,4 @@
-//! The calls of the host and their replies, as `crates/station/src/lib.rt` has them.
+//! The calls of the host and their replies, as `include/station.h` has them.
 
 /// A code and a value: an index, yes or no as 1 or 0, or a length.
 #[repr(C)]

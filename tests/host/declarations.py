@@ -1,4 +1,4 @@
-"""Writes a C file that compiles only if include/station.h declares what crates/station/src/lib.rt exports.
+"""Writes a C file that compiles only if include/station.h declares what the crates export: the calls of station, the replies of calls.
 
 Usage: python3 tests/host/declarations.py > FILE.c
 
@@ -59,13 +59,13 @@ def struct_lines(name, fields):
 
 
 def main():
-    source = (ROOT / "crates/station/src/lib.rt").read_text(encoding="utf-8")
+    source = "".join((ROOT / "crates" / name / "src/lib.rt").read_text(encoding="utf-8") for name in ("calls", "station"))
     header = re.sub(r"/\*.*?\*/", "", (ROOT / "include/station.h").read_text(encoding="utf-8"), flags=re.S)
     exported, declared = {name for name, _, _ in functions(source)}, set(declarations(header))
     replied, defined = {c_name(name) for name, _ in structs(source)}, set(re.findall(r"\}\s*(station_\w+);", header))
     for name in sorted((exported ^ declared) | (replied ^ defined)):
-        where = "crates/station/src/lib.rt" if name in exported | replied else "include/station.h"
-        sys.exit(f"declarations: only {where} has {name}")
+        where = "the crates have" if name in exported | replied else "include/station.h has"
+        sys.exit(f"declarations: only {where} {name}")
     for name, parameters, _ in functions(source):
         if declarations(header)[name] != list(parameter_names(parameters)):
             sys.exit(f"declarations: the parameters of {name} have other names in include/station.h")
