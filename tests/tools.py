@@ -250,8 +250,8 @@ def test_errors_of_output(_):
 
 
 def test_description_of_readme(folder):
-    """The description in README.md builds a sheet."""
-    blocks = re.findall(r"(?:^(?:    .*)?\n)+", (ROOT / "README.md").read_text(encoding="utf-8"), re.M)
+    """The description in tools/README.md builds a sheet."""
+    blocks = re.findall(r"(?:^(?:    .*)?\n)+", (ROOT / "tools/README.md").read_text(encoding="utf-8"), re.M)
     block = next(b for b in blocks if "    [frame]" in b)
     shutil.copytree(ROOT / "samples/fonts", folder / "fonts")
     (folder / "a.toml").write_text(block, encoding="utf-8")

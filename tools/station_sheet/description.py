@@ -1,4 +1,4 @@
-"""Sheets from readable descriptions in TOML; README.md, section Tools, lists the keys."""
+"""Sheets from readable descriptions in TOML; tools/README.md lists the keys."""
 import tomllib
 from pathlib import Path
 
