@@ -1,11 +1,11 @@
--- `draw_bits` meets its contract: at pixel i the first i pixels are drawn and the others as they were. Assumes nothing.
+-- `draw_pixels` meets its contract: at pixel i the first i pixels are drawn and the others as they were. Assumes nothing.
 use Prim.Native.Nat.{_-_}
 use lib.ListN.{length}
 use borrow.Author.Needs.{needs}
 use Rattle.geometry.proofs.Rows.{FirstPainted, row-start, row-step, row-end}
 use Rattle.atlas.specs.Row.{bitRow}
-use Rattle.atlas.proofs.draw_bits.Statement.{statement}
-use Rattle.atlas.proofs.draw_bits.Tie as tie
+use Rattle.atlas.proofs.draw_pixels.Statement.{statement}
+use Rattle.atlas.proofs.draw_pixels.Tie as tie
 
 abbrev Inv-loop : tie.InvT-loop
 Inv-loop row₀ bits text background i₀ row i = FirstPainted (bitRow bits text background) 0 i row₀ row
@@ -50,8 +50,8 @@ same-length c = search needs
 returns : tie.Need-returns Inv-loop μ-loop
 returns c = search row-end
 
-pub draw-bits-spec : {M : Type 1} → statement M
-draw-bits-spec =
+pub draw-pixels-spec : {M : Type 1} → statement M
+draw-pixels-spec =
     tie.close
     (tie.spec
     Inv-loop
