@@ -52,7 +52,7 @@ module _ (a : Atlas) (n i : ℕ) (e : isDrawn a n i ≡ true) where
       let p = and-true (leb 1 (cellWidth a)) _ e in
       let q = and-true (leb 1 (cellHeight a)) _ (p .1) in
       let r = and-true (leb (cellWidth a) (a .width)) _ (q .1) in
-      (column-in i (cellWidth a) (a .width) (leb-true _ _ (p .0)) (leb-true _ _ (r .0)), leb-true _ _ (r .1))
+      (column-in i _ (cellWidth a) (a .width) refl (leb-true _ _ (p .0)) (leb-true _ _ (r .0)), leb-true _ _ (r .1))
 
 -- a glyph, its cell and what a clip shows of that
 module _ (fw : ℕ) (clip shown : Rectangle) (bytes : List ℕ) (a : Atlas) (text background : OptionalGrey) (i left top : ℕ) (xs : List ℕ)

@@ -1,5 +1,6 @@
 -- A row of an atlas drawn eight pixels at a time, and what drawing part of an atlas requires. Assumes nothing.
 use Prim.Native.Nat.{ℕ, _+_, _-_, _*_, _/_, _%_, _^_, _≤_, _<_}
+use mathlib.Core.Path.{_≡_}
 use mathlib.Core.Bool.{Bool, cond}
 use mathlib.Core.List.{List}
 use lib.ListN.{getD}
@@ -7,9 +8,15 @@ use lib.Dec.{ltb, eqb}
 use Rattle.geometry.specs.declared.OptionalGrey.{OptionalGrey}
 use Rattle.geometry.specs.Layer.{colored}
 use Rattle.atlas.specs.declared.Atlas.{Atlas}
+use Rattle.atlas.specs.declared.Cells.{Cells}
 use Rattle.atlas.specs.declared.Corner.{Corner}
 use Rattle.atlas.specs.declared.Corner.the-variants.{At, Missing}
-use Rattle.atlas.specs.Atlas.{isOn, isDrawn, glyphColumn, glyphRow}
+use Rattle.atlas.specs.Atlas.{imageHeight, isOn, glyphsPerRow, isDrawn, glyphColumn, glyphRow}
+
+-- how n bytes hold the glyphs of an atlas
+pub record CellsOf (a : Atlas) (n : ℕ) (c : Cells) : Type 0 where
+  pub per-row : c .«glyphs_per_row» ≡ glyphsPerRow a
+  pub height : c .«image_height» ≡ imageHeight a n
 
 -- where glyph i stands in an atlas of n bytes, if it is drawn
 unfoldable pub glyphCorner : Atlas → ℕ → ℕ → Corner

@@ -3,17 +3,23 @@ use geometry::OptionalGrey;
 use geometry::Rectangle;
 use geometry::Size;
 ghost use mathlib.Core.Path.{_≡_};
-ghost use Prim.Native.Nat.{_+_, _≤_, _<_};
+ghost use Prim.Native.Nat.{_+_, _/_, _≤_, _<_};
 ghost use lib.ListN.{length};
 ghost use Rattle.geometry.specs.Layer.{origin, mapIndexed, within, paint, paintIn};
 ghost use Rattle.geometry.specs.Canvas.{Canvas, onFrame};
 ghost use Rattle.atlas.specs.Atlas.{image, glyph};
-ghost use Rattle.atlas.specs.Row.{glyphCorner, blend, imageRow, bitsAt, bitRow, SubImage};
+ghost use Rattle.atlas.specs.Row.{CellsOf, glyphCorner, blend, imageRow, bitsAt, bitRow, SubImage};
 
 // An atlas of glyphs: embedded-graphics' `ImageRaw` of one bit a pixel, and the size of a glyph's cell in it.
 pub struct Atlas {
     pub width: u32,
     pub cell_size: Size,
+}
+
+// How an atlas's bytes hold its glyphs: how many stand in a row of cells, and how many rows of pixels there are.
+pub struct Cells {
+    pub glyphs_per_row: u32,
+    pub image_height: usize,
 }
 
 // Where a glyph's cell stands in its atlas.
@@ -24,28 +30,51 @@ enum Corner {
     Missing,
 }
 
+// A quotient, 0 for the divisor 0.
+fn quotient(a: usize, b: usize) -> usize
+    ensures { λ r. ⌜ r ≡ a / b ⌝ }
+{
+    if b == 0 {
+        return 0;
+    }
+    a / b
+}
+
+// How n bytes hold the glyphs of an atlas.
+pub fn cells_of(n: usize, atlas: Atlas) -> Cells
+    ensures { λ r. ⌜ CellsOf atlas n r ⌝ }
+{
+    let cell = atlas.cell_size;
+    let width = atlas.width as usize;
+    let glyphs_per_row = quotient(width, cell.width as usize);
+    let image_height = quotient(n, (width + 7) / 8);
+    Cells {
+        glyphs_per_row: glyphs_per_row as u32,
+        image_height,
+    }
+}
+
 // Where the glyph with an index stands in an atlas of n bytes.
-fn glyph_corner(n: usize, atlas: Atlas, index: u32) -> Corner
+fn glyph_corner(n: usize, atlas: Atlas, cells: Cells, index: u32) -> Corner
+    requires { ⌜ CellsOf atlas n cells ⌝ }
     ensures { λ r. ⌜ r ≡ glyphCorner atlas n index ⌝ }
 {
     let cell = atlas.cell_size;
     let width = cell.width;
     let height = cell.height as usize;
-    let atlas_width = atlas.width;
     if width < 1 {
         return Corner::Missing;
     }
     if height < 1 {
         return Corner::Missing;
     }
-    if atlas_width < width {
+    if atlas.width < width {
         return Corner::Missing;
     }
-    let per_row = atlas_width / width;
+    let per_row = cells.glyphs_per_row;
     let column = index % per_row * width;
     let row = ((index / per_row) as usize) * height;
-    let stride = (atlas_width as usize + 7) / 8;
-    if n / stride < row + height {
+    if cells.image_height < row + height {
         return Corner::Missing;
     }
     Corner::At(column as usize, row)
@@ -90,8 +119,8 @@ fn blend(on: bool, text: OptionalGrey, background: OptionalGrey, grey: u8) -> u8
     }
 }
 
-// Draws at most eight pixels, from the bits 7 to 0 of a number.
-fn draw_bits(row: &mut [u8], bits: u32, text: OptionalGrey, background: OptionalGrey)
+// Draws at most eight pixels, from the bits 7 to 0 of a number, one by one.
+fn draw_pixels(row: &mut [u8], bits: u32, text: OptionalGrey, background: OptionalGrey)
     requires { ⌜ length (now row) ≤ 8 ⌝ }
     ensures { λ _. ⌜ now (row .exit) ≡ mapIndexed (bitRow bits text background) 0 (now (row .entry)) ⌝ }
 {
@@ -101,6 +130,33 @@ fn draw_bits(row: &mut [u8], bits: u32, text: OptionalGrey, background: Optional
         row[i] = blend(on, text, background, row[i]);
         i += 1;
     }
+}
+
+// The same for at most four pixels; a part of just four is drawn without a loop.
+fn draw_four(row: &mut [u8], bits: u32, text: OptionalGrey, background: OptionalGrey)
+    requires { ⌜ length (now row) ≤ 4 ⌝ }
+    ensures { λ _. ⌜ now (row .exit) ≡ mapIndexed (bitRow bits text background) 0 (now (row .entry)) ⌝ }
+{
+    if 4 <= row.len() {
+        draw_pixels(&mut row[0..4], bits, text, background);
+        return;
+    }
+    draw_pixels(row, bits, text, background);
+}
+
+// Draws at most eight pixels, from the bits 7 to 0 of a number, four at a time.
+fn draw_bits(row: &mut [u8], bits: u32, text: OptionalGrey, background: OptionalGrey)
+    requires { ⌜ length (now row) ≤ 8 ⌝ }
+    ensures { λ _. ⌜ now (row .exit) ≡ mapIndexed (bitRow bits text background) 0 (now (row .entry)) ⌝ }
+{
+    let n = row.len();
+    if n <= 4 {
+        draw_four(row, bits, text, background);
+        return;
+    }
+    let rest = bits % 16 * 16;
+    draw_four(&mut row[0..4], bits, text, background);
+    draw_four(&mut row[4..n], rest, text, background);
 }
 
 // Draws a row of pixels, eight at a time, from the atlas's pixel (x, y) on.
@@ -117,7 +173,7 @@ fn draw_row(
     ensures { λ _. ⌜ now (row .exit) ≡ mapIndexed (imageRow (now (bytes .entry)) stride y text background) x (now (row .entry)) ⌝ }
 {
     let mut i = 0;
-    while 8 <= row.len() - i {
+    while 8 < row.len() - i {
         let e = i + 8;
         let bits = bits_at(bytes, stride, x + i, y);
         draw_bits(&mut row[i..e], bits, text, background);
@@ -168,6 +224,7 @@ pub fn draw_glyph(
     clip: Rectangle,
     bytes: &[u8],
     atlas: Atlas,
+    cells: Cells,
     text: OptionalGrey,
     background: OptionalGrey,
     index: u32,
@@ -175,6 +232,7 @@ pub fn draw_glyph(
     top: u32,
 )
     requires { ⌜ Canvas fw fh (length (now frame)) clip ⌝ }
+    requires { ⌜ CellsOf atlas (length (now bytes)) cells ⌝ }
     ensures { λ _. ⌜ now (frame .exit) ≡ paintIn fw clip (glyph (now (bytes .entry)) atlas text background index left top) (now (frame .entry)) ⌝ }
 {
     let cell = atlas.cell_size;
@@ -188,7 +246,7 @@ pub fn draw_glyph(
     if shown.is_empty() {
         return;
     }
-    let Corner::At(column, row) = glyph_corner(bytes.len(), atlas, index) else {
+    let Corner::At(column, row) = glyph_corner(bytes.len(), atlas, cells, index) else {
         return;
     };
     let stride = (atlas.width as usize + 7) / 8;

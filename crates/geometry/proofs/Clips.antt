@@ -8,7 +8,7 @@ use Rattle.geometry.specs.declared.Rectangle.{Rectangle}
 use Rattle.geometry.specs.Rectangle.{isEmpty, intersection}
 use Rattle.geometry.specs.Layer.{origin, Layer, within, paint, paintIn}
 use Rattle.geometry.specs.Canvas.{Canvas, onFrame}
-use Rattle.geometry.proofs.Rectangles.{in-not-empty, not-empty}
+use Rattle.geometry.proofs.Rectangles.{empty-out, not-empty}
 use Rattle.geometry.proofs.Layers.{within-out, within-intersection, paint-none, paint-same}
 
 module _ (clip area shown : Rectangle) (e : shown ≡ intersection clip area) where
@@ -41,7 +41,7 @@ module _ (clip area shown : Rectangle) (e : shown ≡ intersection clip area) wh
   -- paints nothing where the two share nothing
   pub paint-unshown : (fw : ℕ) (f : Layer) (xs : List ℕ) (empty : Bool) → empty ≡ isEmpty shown → empty ≡ true → xs ≡ paintIn fw clip (within area f) xs
   paint-unshown fw f xs empty is-empty holds =
-      sym (paint-none fw (within shown f) xs (λ c r grey. within-out shown f c r grey (λ i. let n = in-not-empty shown c r i in let z : _≡_ {A = ℕ} 0 1 = cc in omega arith)))
+      sym (paint-none fw (within shown f) xs (λ c r grey. within-out shown f c r grey (empty-out shown empty is-empty holds c r)))
       ∙ paint-shown fw f xs
 
   module _ (fw fh n : ℕ) (canvas : Canvas fw fh n clip) where

@@ -15,7 +15,8 @@ use Rattle.geometry.specs.declared.OptionalGrey.the-variants.{Unset, Set
 use Rattle.geometry.specs.Rectangle.{isEmpty, intersection}
 use Rattle.geometry.specs.Layer.{origin, Layer, colored, filled, paint, paintIn}
 use Rattle.geometry.specs.Canvas.{Canvas, onFrame}
-use Rattle.geometry.proofs.Layers.{within-none, paint-none}
+use Rattle.geometry.proofs.Rectangles.{empty-out}
+use Rattle.geometry.proofs.Layers.{within-none, filled-out, paint-none}
 use Rattle.geometry.proofs.Rows.{replicate-mapIndexed}
 use Rattle.geometry.proofs.Frames.{RowsPainted, rows-room, rows-step, rows-run, paint-run}
 use Rattle.geometry.proofs.Clips.{paint-unshown, shown-on-frame, paint-shown}
@@ -68,6 +69,11 @@ module _ (clip area shown : Rectangle) (color : OptionalGrey) (xs : List ℕ) (e
   unfolding filled
   fill-shown fh n ys canvas f =
       f ∙ rw (shown-on-frame clip area shown e fw fh n canvas) (paint-shown clip area shown e fw (λ c r grey. colored color grey) xs)
+
+-- filling an empty area changes nothing
+pub fill-empty : (fw : ℕ) (clip area : Rectangle) (color : OptionalGrey) (xs : List ℕ) (empty : Bool) → empty ≡ isEmpty area → empty ≡ true → xs ≡ paintIn fw clip (filled area color) xs
+fill-empty fw clip area color xs empty is-empty holds =
+    sym (paint-none fw _ xs (within-none clip (filled area color) (λ c r grey. filled-out area color c r grey (empty-out area empty is-empty holds c r))))
 
 -- filling with a colour that is unset changes nothing
 pub fill-unset : (fw : ℕ) (clip area : Rectangle) (color : OptionalGrey) (xs : List ℕ) → color ≡ Unset → xs ≡ paintIn fw clip (filled area color) xs

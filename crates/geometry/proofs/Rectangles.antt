@@ -60,6 +60,10 @@ module _ (a : Rectangle) (c r : ℕ) where
   unfolding isEmpty
   in-not-empty h = rw (ne-eqb (a .width) 0 (λ e. omega arith), ne-eqb (a .height) 0 (λ e. omega arith))
 
+-- no place is in an empty rectangle
+pub empty-out : (a : Rectangle) (empty : Bool) → empty ≡ isEmpty a → empty ≡ true → (c r : ℕ) → In a c r → ⊥
+empty-out a empty is-empty holds c r i = let n = in-not-empty a c r i in let z : _≡_ {A = ℕ} 0 1 = cc in omega arith
+
 pub not-empty : (a : Rectangle) → isEmpty a ≡ false → (0 < a .width) × (0 < a .height)
 unfolding isEmpty
 not-empty a h =

@@ -202,6 +202,9 @@ pub fn fill_solid(
     requires { ⌜ Canvas fw fh (length (now frame)) clip ⌝ }
     ensures { λ _. ⌜ now (frame .exit) ≡ paintIn fw clip (filled area (OptionalGrey.Set grey)) (now (frame .entry)) ⌝ }
 {
+    if area.is_empty() {
+        return;
+    }
     let shown = clip.intersection(area);
     if shown.is_empty() {
         return;

@@ -1,10 +1,12 @@
 // One line of text: its colours, its decorations and its drawing.
 use atlas::Atlas;
+use atlas::Cells;
 use characters::Cursor;
 use characters::Step;
 use geometry::OptionalGrey;
 use geometry::Rectangle;
 use geometry::numbers::minus;
+use mapping::Entry;
 pub use measuring::advance;
 pub use measuring::baseline_offset;
 pub use measuring::ink_box;
@@ -18,7 +20,8 @@ ghost use lib.ListN.{length};
 ghost use Rattle.geometry.specs.Layer.{paintIn};
 ghost use Rattle.geometry.specs.Canvas.{Canvas};
 ghost use Rattle.characters.specs.Utf8.{chars};
-ghost use Rattle.mapping.specs.Entries.{WithinLimit};
+ghost use Rattle.mapping.specs.Entries.{entryAt, WithinLimit};
+ghost use Rattle.atlas.specs.Row.{CellsOf};
 ghost use Rattle.line.specs.Line.{fontOf, toColor, character, glyphs, spaced, advance, decoration, decorations, glyphIndex, string, whitespace};
 ghost use Rattle.line.specs.Clip.{disjoint, showsGlyphs};
 ghost use Rattle.line.specs.Limits.{FontLimits, PlaceLimits, CharacterLimits, DecorationLimits, TopLimit};
@@ -103,6 +106,8 @@ fn draw_character(
     clip: Rectangle,
     atlas: &[u8],
     mapping: &[u8],
+    cells: Cells,
+    first: Entry,
     font: MonoFont,
     style: MonoTextStyle,
     gap: u32,
@@ -113,12 +118,14 @@ fn draw_character(
     requires { ⌜ Canvas fw fh (length (now frame)) clip ⌝ }
     requires { ⌜ FontLimits font ⌝ }
     requires { ⌜ WithinLimit (now mapping) ⌝ }
+    requires { ⌜ CellsOf (font .atlas) (length (now atlas)) cells ⌝ }
+    requires { ⌜ first ≡ entryAt (now mapping) 0 ⌝ }
     requires { ⌜ CharacterLimits gap x ⌝ }
     ensures { λ _. ⌜ now (frame .exit) ≡ paintIn fw clip (character (fontOf font (now (atlas .entry)) (now (mapping .entry))) style gap (glyphIndex (fontOf font (now (atlas .entry)) (now (mapping .entry))) ch) x top) (now (frame .entry)) ⌝ }
 {
-    let cells = font.atlas;
-    let height = cells.cell_size.height;
-    let width = gap + cells.cell_size.width;
+    let image = font.atlas;
+    let height = image.cell_size.height;
+    let width = gap + image.cell_size.width;
     if disjoint(x, width, clip.left, clip.width) {
         return;
     }
@@ -131,7 +138,7 @@ fn draw_character(
     let text = style.text_color;
     let background = style.background_color;
     geometry::fill(frame, fw, fh, clip, area, background);
-    let index = mapping::index(mapping, font.replacement_index, ch);
+    let index = mapping::index_with(mapping, first, font.replacement_index, ch);
     let left = x + gap;
     atlas::draw_glyph(
         frame,
@@ -139,6 +146,7 @@ fn draw_character(
         fh,
         clip,
         atlas,
+        image,
         cells,
         text,
         background,
@@ -156,6 +164,8 @@ fn draw_glyphs(
     clip: Rectangle,
     atlas: &[u8],
     mapping: &[u8],
+    cells: Cells,
+    first: Entry,
     text: &[u8],
     font: MonoFont,
     style: MonoTextStyle,
@@ -165,6 +175,8 @@ fn draw_glyphs(
     requires { ⌜ Canvas fw fh (length (now frame)) clip ⌝ }
     requires { ⌜ FontLimits font ⌝ }
     requires { ⌜ WithinLimit (now mapping) ⌝ }
+    requires { ⌜ CellsOf (font .atlas) (length (now atlas)) cells ⌝ }
+    requires { ⌜ first ≡ entryAt (now mapping) 0 ⌝ }
     requires { ⌜ PlaceLimits (length (now text)) left top ⌝ }
     ensures { λ _. ⌜ now (frame .exit) ≡ paintIn fw clip (glyphs (fontOf font (now (atlas .entry)) (now (mapping .entry))) style 0 (map (glyphIndex (fontOf font (now (atlas .entry)) (now (mapping .entry)))) (chars (now (text .entry)))) left top) (now (frame .entry)) ⌝ }
     ensures { λ r. ⌜ r ≡ left + spaced font (length (chars (now (text .entry)))) ⌝ }
@@ -185,6 +197,8 @@ fn draw_glyphs(
             clip,
             atlas,
             mapping,
+            cells,
+            first,
             font,
             style,
             gap,
@@ -220,6 +234,9 @@ fn draw_characters(
     ensures { λ r. ⌜ r ≡ x + advance font style (length (chars (now (text .entry)))) ⌝ }
 {
     if shows_glyphs(clip, font, style, top) {
+        let image = font.atlas;
+        let cells = atlas::cells_of(atlas.len(), image);
+        let first = mapping::first_entry(mapping);
         return draw_glyphs(
             frame,
             fw,
@@ -227,6 +244,8 @@ fn draw_characters(
             clip,
             atlas,
             mapping,
+            cells,
+            first,
             text,
             font,
             style,

@@ -1,9 +1,9 @@
--- `find`, `index`, `contains` and `check_mapping`: a law for each fact that they need, where x is the entry at a position. Assumes nothing.
+-- `find`, `index_with`, `contains` and `check_mapping`: a law for each fact that they need, where x is the entry at a position. Assumes nothing.
 use mathlib.Core.Path.{_≡_, refl, sym, _∙_, ap}
 use mathlib.Core.Logic.{_⊎_, ⊎-elim}
 use mathlib.Core.Bool.{Bool, true, false, cond, and-eq-true-iff, true≢false}
 use mathlib.Core.List.{List, [], _∷_}
-use Prim.Native.Nat.{ℕ, suc, _+_, _-_, _<_, _≤_, min}
+use Prim.Native.Nat.{ℕ, suc, _+_, _-_, _^_, _<_, _≤_, min}
 use native.Mathlib.Omega.{arith}
 use native.Mathlib.Decide.{decLt}
 use borrow.Author.Tests.{leb-true, not-true, le-leb, lt-leb}
@@ -11,7 +11,7 @@ use denote.Enum.Declared.{tagOf}
 use lib.ListN.{length, length-append}
 use lib.Dec.{leb, eqb}
 use mir.Val.{Fits}
-use mir.Syntax.{w64}
+use mir.Syntax.{w32, w64}
 use Rattle.characters.specs.declared.Cursor.{Cursor}
 use Rattle.characters.specs.Utf8.{isSurrogate, charsFrom, wellFormedFrom}
 use Rattle.mapping.proofs.Entry.{the-type as entry-type}
@@ -74,13 +74,25 @@ module _ (s : List ℕ) (at : ℕ) {x : Entry} (e : x ≡ entryAt s at) {start e
       pub found-pos : (k p : ℕ) → p ≡ length (range start ch) → 1 ≤ k + p
       found-pos k p z = let r = in-range in let l = length-range-through start ch (r .2) (r .0) in omega arith
 
+      -- where it stands
+      found-place : (k p : ℕ) → p ≡ length (range start ch) → placeFrom k ch (spelled (charsFrom s at)) ≡ At (k + p - 1)
+      found-place k p z =
+          let r = in-range in
+          rw (entry-range s at e q .spells, z) (place-in ch (spelled (charsFrom s (c .at))) k start end (r .2) (r .0) (r .1))
+
+      -- in the first entry's range
+      pub first-pos : (p : ℕ) → p ≡ length (range start ch) → 1 ≤ p
+      first-pos p z = omega (arith, found-pos 0 p z)
+
+      pub first-fits : (p : ℕ) → p ≡ length (range start ch) → ch < 2 ^ 32 → Fits w32 (p - 1)
+      first-fits p z h = let l = length-range-le start ch in omega arith
+
+      pub index-first : (replacement p : ℕ) → p ≡ length (range start ch) → p - 1 ≡ placeOr replacement (placeFrom 0 ch (spelled (charsFrom s at)))
+      index-first replacement p z = rw (found-place 0 p z) (omega arith)
+
       pub found-at : (most k p j : ℕ) (f : Found) → p ≡ length (range start ch) → j ≡ min (k + p - 1) most
           → atMost most (placeFrom k ch (spelled (charsFrom s at))) ≡ f → At j ≡ f
-      found-at most k p j f z m h =
-          let r = in-range in
-          let here : placeFrom k ch (spelled (charsFrom s at)) ≡ At (k + p - 1) =
-          rw (entry-range s at e q .spells, z) (place-in ch (spelled (charsFrom s (c .at))) k start end (r .2) (r .0) (r .1)) in
-          rw m (rw here at h)
+      found-at most k p j f z m h = rw m (rw (found-place k p z) at h)
 
     pub find-again : t ≡ false → (most k z j : ℕ) (f : Found) → z ≡ length (range start end) → j ≡ min (k + z) most
         → atMost most (placeFrom k ch (spelled (charsFrom s at))) ≡ f → atMost most (placeFrom j ch (spelled (charsFrom s (c .at)))) ≡ f
@@ -115,6 +127,10 @@ module _ (s : List ℕ) (at : ℕ) {x : Entry} (e : x ≡ entryAt s at) (t : (ta
   unfolding placeFrom
   find-stopped most k ch f h = rw (entry-stopped s at e t) at h
 
+  pub index-stopped : (replacement ch : ℕ) → replacement ≡ placeOr replacement (placeFrom 0 ch (spelled (charsFrom s at)))
+  unfolding placeFrom
+  index-stopped replacement ch = rw (entry-stopped s at e t)
+
   pub check-stopped : (k r : ℕ) → k ≤ 65_537 → wellFormedFrom s at ≡ wellFormedFrom s 0
       → min (k + length (spelled (charsFrom s at))) 65_537 ≡ min (length (listOf s)) 65_537 → r ≡ stopRefusal x k → r ≡ refusal s
   unfolding refusal stopRefusal
@@ -126,7 +142,7 @@ module _ (s : List ℕ) (at : ℕ) {x : Entry} (e : x ≡ entryAt s at) (t : (ta
       rw (o, q, v, limit-same k (length (listOf s)) (omega arith)))
       (stopped-entry x t)
 
--- ---- `index` and `contains`
+-- ---- `index_with` and `contains`
 
 pub index-at : (m : List ℕ) (replacement ch i : ℕ) (f : Found) → WithinLimit m → f ≡ atMost 65_536 (placeFrom 0 ch (listOf m)) → f ≡ At i
     → i ≡ placeOr replacement (placeFrom 0 ch (listOf m))

@@ -8,7 +8,7 @@ ghost use Rattle.mapping.specs.Mapping.{range, listOf, placeFrom, index,
 
 // What stands at a position of a mapping: a range of characters and the position after it, a sequence that RFC 3629 does not
 // allow, or the end of the list.
-enum Entry {
+pub enum Entry {
     Range(u32, u32, Cursor),
     IllFormed,
     End,
@@ -121,15 +121,40 @@ fn find(mapping: &[u8], ch: u32) -> Found
     }
 }
 
-// The first position of a character in a mapping that the check accepts, else the replacement.
-pub fn index(mapping: &[u8], replacement: u32, ch: u32) -> u32
+// The first entry of a mapping.
+pub fn first_entry(mapping: &[u8]) -> Entry
+    ensures { λ r. ⌜ r ≡ entryAt (now (mapping .entry)) 0 ⌝ }
+{
+    entry_at(mapping, Cursor { at: 0 })
+}
+
+// The first position of a character in a mapping that the check accepts, else the replacement. The mapping's first entry is
+// given, so that a character of its range is found without a step over the bytes.
+pub fn index_with(mapping: &[u8], first: Entry, replacement: u32, ch: u32) -> u32
     requires { ⌜ WithinLimit (now mapping) ⌝ }
+    requires { ⌜ first ≡ entryAt (now mapping) 0 ⌝ }
     ensures { λ r. ⌜ r ≡ index (now (mapping .entry)) replacement ch ⌝ }
 {
+    let Entry::Range(start, end, _) = first else {
+        return replacement;
+    };
+    if in_range(start, end, ch) {
+        let through = range_len(start, ch);
+        return (through - 1) as u32;
+    }
     let Found::At(place) = find(mapping, ch) else {
         return replacement;
     };
     place
+}
+
+// The same, with the first entry read from the mapping.
+pub fn index(mapping: &[u8], replacement: u32, ch: u32) -> u32
+    requires { ⌜ WithinLimit (now mapping) ⌝ }
+    ensures { λ r. ⌜ r ≡ index (now (mapping .entry)) replacement ch ⌝ }
+{
+    let first = first_entry(mapping);
+    index_with(mapping, first, replacement, ch)
 }
 
 // Whether a mapping lists a character.

@@ -1,70 +1,66 @@
--- `draw_bits` meets its contract: at pixel i the first i pixels are drawn and the others as they were. Assumes nothing.
-use Prim.Native.Nat.{_-_}
-use lib.ListN.{length}
+-- `draw_bits` meets its contract: four pixels are drawn from the upper bits, and the rest from the lower ones. Assumes nothing.
 use borrow.Author.Needs.{needs}
-use Rattle.geometry.proofs.Rows.{FirstPainted, row-start, row-step, row-end}
-use Rattle.atlas.specs.Row.{bitRow}
+use Rattle.atlas.proofs.Bits.{four-and-rest}
 use Rattle.atlas.proofs.draw_bits.Statement.{statement}
 use Rattle.atlas.proofs.draw_bits.Tie as tie
 
-abbrev Inv-loop : tie.InvT-loop
-Inv-loop row₀ bits text background i₀ row i = FirstPainted (bitRow bits text background) 0 i row₀ row
+draw-four-requires : tie.Need-draw-four-requires
+draw-four-requires c κs = search needs
 
-abbrev μ-loop : tie.MeasureT-loop
-μ-loop row₀ bits text background i₀ row i = length row₀ - i
-
-loop-holds : tie.Need-loop-holds Inv-loop μ-loop
-loop-holds c = search row-start
-
-sub-on : tie.Need-sub-on Inv-loop μ-loop
-sub-on c = search needs
-
-cast-on : tie.Need-cast-on Inv-loop μ-loop
-cast-on c = search needs
-
-shr-on : tie.Need-shr-on Inv-loop μ-loop
-shr-on c = search needs
-
-slice-read-blend : tie.Need-slice-read-blend Inv-loop μ-loop
-slice-read-blend c = search needs
-
-blend-requires : tie.Need-blend-requires Inv-loop μ-loop
-blend-requires c κs = search needs
-
-slice-write-row : tie.Need-slice-write-row Inv-loop μ-loop
-slice-write-row c = search needs
-
-add-i : tie.Need-add-i Inv-loop μ-loop
-add-i c = search needs
-
-loop-less : tie.Need-loop-less Inv-loop μ-loop
-loop-less c = search needs
-
-loop-again : tie.Need-loop-again Inv-loop μ-loop
-unfolding bitRow
-loop-again c = search row-step
-
-same-length : tie.Need-same-length Inv-loop μ-loop
+same-length : tie.Need-same-length
 same-length c = search needs
 
-returns : tie.Need-returns Inv-loop μ-loop
-returns c = search row-end
+returns : tie.Need-returns
+returns c = search needs
+
+mul-rest : tie.Need-mul-rest
+mul-rest c = search needs
+
+sub-draw-four : tie.Need-sub-draw-four
+sub-draw-four c = search needs
+
+part-draw-four-start : tie.Need-part-draw-four-start
+part-draw-four-start c = search needs
+
+part-draw-four-end : tie.Need-part-draw-four-end
+part-draw-four-end c = search needs
+
+draw-four-requires-2 : tie.Need-draw-four-requires-2
+draw-four-requires-2 c κs = search needs
+
+sub-draw-four-2 : tie.Need-sub-draw-four-2
+sub-draw-four-2 c = search needs
+
+part-draw-four-start-2 : tie.Need-part-draw-four-start-2
+part-draw-four-start-2 c = search needs
+
+part-draw-four-end-2 : tie.Need-part-draw-four-end-2
+part-draw-four-end-2 c = search needs
+
+draw-four-requires-3 : tie.Need-draw-four-requires-3
+draw-four-requires-3 c κs = search needs
+
+same-length-2 : tie.Need-same-length-2
+same-length-2 c = search needs
+
+returns-2 : tie.Need-returns-2
+returns-2 c = search four-and-rest
 
 pub draw-bits-spec : {M : Type 1} → statement M
 draw-bits-spec =
     tie.close
     (tie.spec
-    Inv-loop
-    μ-loop
-    loop-holds
-    sub-on
-    cast-on
-    shr-on
-    slice-read-blend
-    blend-requires
-    slice-write-row
-    add-i
-    loop-less
-    loop-again
+    draw-four-requires
     same-length
-    returns)
+    returns
+    mul-rest
+    sub-draw-four
+    part-draw-four-start
+    part-draw-four-end
+    draw-four-requires-2
+    sub-draw-four-2
+    part-draw-four-start-2
+    part-draw-four-end-2
+    draw-four-requires-3
+    same-length-2
+    returns-2)

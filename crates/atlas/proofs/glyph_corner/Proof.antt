@@ -3,7 +3,7 @@ use borrow.Author.Needs.{needs}
 use borrow.Author.Tests.{lt-leb, le-leb}
 use Rattle.atlas.specs.Atlas.{isDrawn}
 use Rattle.atlas.specs.Row.{glyphCorner}
-use Rattle.atlas.proofs.Corners.{per-row-pos, column-fits, column-widens, line-fits, row-fits, foot-fits}
+use Rattle.atlas.proofs.Corners.{per-row-pos, column-fits, column-widens, line-fits, row-fits, foot-fits, corner-past-foot, corner-in}
 use Rattle.atlas.proofs.glyph_corner.Statement.{statement}
 use Rattle.atlas.proofs.glyph_corner.Tie as tie
 
@@ -24,9 +24,6 @@ returns-3 : tie.Need-returns-3
 unfolding glyphCorner isDrawn
 returns-3 c = search tests
 
-div-per-row : tie.Need-div-per-row
-div-per-row c = search needs
-
 rem-column : tie.Need-rem-column
 rem-column c = search per-row-pos
 
@@ -42,28 +39,17 @@ cast-row c = search line-fits
 mul-row : tie.Need-mul-row
 mul-row c = search row-fits
 
-cast-stride : tie.Need-cast-stride
-cast-stride c = search needs
-
-add-stride : tie.Need-add-stride
-add-stride c = search needs
-
-div-if4 : tie.Need-div-if4
-div-if4 c = search needs
-
 add-if4 : tie.Need-add-if4
 add-if4 c = search foot-fits
 
 returns-4 : tie.Need-returns-4
-unfolding glyphCorner isDrawn
-returns-4 c = search tests
+returns-4 c = search corner-past-foot
 
-cast-t14 : tie.Need-cast-t14
-cast-t14 c = search column-widens
+cast-t13 : tie.Need-cast-t13
+cast-t13 c = search column-widens
 
 returns-5 : tie.Need-returns-5
-unfolding glyphCorner isDrawn
-returns-5 c = search tests
+returns-5 c = search corner-in
 
 pub glyph-corner-spec : {M : Type 1} → statement M
 glyph-corner-spec =
@@ -73,16 +59,12 @@ glyph-corner-spec =
     returns
     returns-2
     returns-3
-    div-per-row
     rem-column
     mul-column
     div-row
     cast-row
     mul-row
-    cast-stride
-    add-stride
-    div-if4
     add-if4
     returns-4
-    cast-t14
+    cast-t13
     returns-5)

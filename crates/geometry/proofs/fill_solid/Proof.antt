@@ -1,18 +1,24 @@
--- `fill_solid` meets its contract: what the clip shows of the area is filled, and it lies in the frame unless it is empty. Assumes nothing.
+-- `fill_solid` meets its contract: an empty area is not filled, and else what the clip shows of it is, which lies in the frame unless it is empty. Assumes nothing.
 use borrow.Author.Needs.{needs}
 use Rattle.geometry.proofs.Clips.{shown-left, shown-top, shown-canvas}
-use Rattle.geometry.proofs.Fills.{fill-unshown, fill-shown}
+use Rattle.geometry.proofs.Fills.{fill-empty, fill-unshown, fill-shown}
 use Rattle.geometry.proofs.fill_solid.Statement.{statement}
 use Rattle.geometry.proofs.fill_solid.Tie as tie
-
-intersection-requires : tie.Need-intersection-requires
-intersection-requires c κs = search needs
 
 is-empty-requires : tie.Need-is-empty-requires
 is-empty-requires c κs = search needs
 
 returns : tie.Need-returns
-returns c = search fill-unshown
+returns c = search fill-empty
+
+intersection-requires : tie.Need-intersection-requires
+intersection-requires c κs = search needs
+
+is-empty-requires-2 : tie.Need-is-empty-requires-2
+is-empty-requires-2 c κs = search needs
+
+returns-2 : tie.Need-returns-2
+returns-2 c = search fill-unshown
 
 sub-left : tie.Need-sub-left
 sub-left c = search shown-left
@@ -38,16 +44,18 @@ fill-box-requires c κs = search shown-canvas
 same-length : tie.Need-same-length
 same-length c = search needs
 
-returns-2 : tie.Need-returns-2
-returns-2 c = search fill-shown
+returns-3 : tie.Need-returns-3
+returns-3 c = search fill-shown
 
 pub fill-solid-spec : {M : Type 1} → statement M
 fill-solid-spec =
     tie.close
     (tie.spec
-    intersection-requires
     is-empty-requires
     returns
+    intersection-requires
+    is-empty-requires-2
+    returns-2
     sub-left
     cast-left
     sub-top
@@ -56,4 +64,4 @@ fill-solid-spec =
     cast-height
     fill-box-requires
     same-length
-    returns-2)
+    returns-3)

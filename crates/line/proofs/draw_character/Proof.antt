@@ -16,8 +16,8 @@ returns c = search character-unshown
 fill-requires : tie.Need-fill-requires
 fill-requires c κs = search needs
 
-index-requires : tie.Need-index-requires
-index-requires c κs = search needs
+index-with-requires : tie.Need-index-with-requires
+index-with-requires c κs = search needs
 
 add-left : tie.Need-add-left
 add-left c = search needs
@@ -39,7 +39,7 @@ draw-character-spec =
     disjoint-requires
     returns
     fill-requires
-    index-requires
+    index-with-requires
     add-left
     draw-glyph-requires
     same-length

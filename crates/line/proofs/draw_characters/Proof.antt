@@ -8,8 +8,14 @@ use Rattle.line.proofs.draw_characters.Tie as tie
 shows-glyphs-requires : tie.Need-shows-glyphs-requires
 shows-glyphs-requires c κs = search needs
 
+cells-of-requires : tie.Need-cells-of-requires
+cells-of-requires c κs = search needs
+
+first-entry-requires : tie.Need-first-entry-requires
+first-entry-requires c κs = search needs
+
 draw-glyphs-requires : tie.Need-draw-glyphs-requires
-draw-glyphs-requires c κs = search needs
+draw-glyphs-requires c κs = (search needs, (search needs, (search needs, (search needs, (search needs, search needs)))))
 
 same-length : tie.Need-same-length
 same-length c = search needs
@@ -31,6 +37,8 @@ draw-characters-spec =
     tie.close
     (tie.spec
     shows-glyphs-requires
+    cells-of-requires
+    first-entry-requires
     draw-glyphs-requires
     same-length
     returns
