@@ -166,17 +166,28 @@ fn ask(sheet: &[u8], kind: u8, call: &[u8]) -> Box {
     step_reply(station::station_walk(data_of(call), first as usize))
 }
 
-// Makes a call that draws on the frame.
+// Makes a call that draws on the frame, or one that changes nothing.
 fn draw(sheet: &[u8], frame: &mut [u8], kind: u8, call: &[u8]) -> Box {
-    let item = number_at(call, 1);
     if kind == 4 {
-        return position_reply(station::station_draw_item(sheet, frame, item));
+        return position_reply(station::station_draw_item(sheet, frame, number_at(call, 1)));
     }
     if kind == 5 {
         let width = number_at(call, 5);
+        let item = number_at(call, 1);
         return position_reply(station::station_draw_whitespace(sheet, frame, item, width));
     }
-    code_reply(station::station_draw(sheet, frame))
+    if kind == 6 {
+        return code_reply(station::station_draw(sheet, frame));
+    }
+    ask(sheet, kind, call)
+}
+
+// Writes the page, or makes a call that changes nothing.
+fn write(sheet: &[u8], frame: &[u8], output: &mut [u8], kind: u8, call: &[u8]) -> Box {
+    if kind == 13 {
+        return number_reply(station::station_write_page(sheet, frame, output));
+    }
+    ask(sheet, kind, call)
 }
 
 // Makes an edit with a frame.
@@ -198,9 +209,6 @@ fn change_on_sheet(sheet: &mut [u8], kind: u8, call: &[u8]) -> Box {
 // Makes a call of the list.
 fn make_call(sheet: &mut [u8], frame: &mut [u8], output: &mut [u8], call: &[u8]) -> Box {
     let kind = byte_or_zero(call, 0);
-    if kind < 4 {
-        return ask(&sheet[..], kind, call);
-    }
     if kind < 7 {
         return draw(&sheet[..], frame, kind, call);
     }
@@ -210,10 +218,7 @@ fn make_call(sheet: &mut [u8], frame: &mut [u8], output: &mut [u8], call: &[u8])
     if kind < 13 {
         return change_on_sheet(sheet, kind - 10, call);
     }
-    if kind == 13 {
-        return number_reply(station::station_write_page(&sheet[..], &frame[..], output));
-    }
-    ask(&sheet[..], kind, call)
+    write(&sheet[..], &frame[..], output, kind, call)
 }
 
 // ---- the comparison
@@ -309,25 +314,33 @@ fn compare_call(
 
 // ---- what is written and counted
 
+// Writes a word and a number.
+fn write_named(word: &[u8], n: u64) {
+    write_word(word);
+    write_number(n);
+}
+
 fn write_unless(is_same: bool, word: &[u8]) {
     if !is_same {
         write_word(word);
     }
 }
 
-// Writes which call of which case differs, and in what.
-fn write_difference(case: u64, number: u64, kind: u8, same: Same) {
-    write_word(b"difference: case");
-    write_number(case);
-    write_word(b", call");
-    write_number(number);
-    write_word(b", kind");
-    write_number(kind as u64);
-    write_word(b":");
+// Writes what of an outcome differs.
+fn write_parts(same: Same) {
     write_unless(same.reply, b" reply");
     write_unless(same.sheet, b" sheet");
     write_unless(same.frame, b" frame");
     write_unless(same.output, b" output");
+}
+
+// Writes which call of which case differs, and in what.
+fn write_difference(case: u64, number: u64, kind: u8, same: Same) {
+    write_named(b"difference: case", case);
+    write_named(b", call", number);
+    write_named(b", kind", kind as u64);
+    write_word(b":");
+    write_parts(same);
     write_word(b"\n");
 }
 
@@ -429,28 +442,30 @@ fn output_at(case: &[u8]) -> usize
     at + 2 + length_at(case, at)
 }
 
-// Replays the case at an offset, on new slices; the offset after it, or 0 where the list ends in it.
-fn replay_case(list: &[u8], at: usize, counts: &mut [u64; 17], number: u64) -> usize
-    requires { ⌜ at ≤ length (now list) ⌝ }
+// Replays the calls of a case on new slices of the given lengths.
+fn with_slices(
+    list: &[u8],
+    case: &[u8],
+    calls: usize,
+    counts: &mut [u64; 17],
+    number: u64,
+    s: usize,
+    f: usize,
+    o: usize,
+) -> usize
+    requires { ⌜ calls ≤ length (now list) ⌝ }
+    requires { ⌜ (s < 65536) × (f < 65536) × (o < 65536) ⌝ }
     ensures { λ r. ⌜ r ≤ length (now (list .entry)) ⌝ }
 {
-    let case = rest(list, at);
-    let calls = at + output_at(case) + 4;
-    if calls > list.len() {
-        return 0;
-    }
     let mut all_sheet = [0u8; 65536];
     let mut all_frame = [0u8; 65536];
     let mut all_output = [0u8; 65536];
     let mut old = [0u8; 196608];
-    let s = length_at(case, 0);
-    let f = length_at(case, frame_at(case));
-    let o = length_at(case, output_at(case));
-    let end = length_at(case, output_at(case) + 2);
     let sheet = &mut all_sheet[0..s];
     let frame = &mut all_frame[0..f];
     let output = &mut all_output[0..o];
     start(sheet, frame, output, case);
+    let end = length_at(case, output_at(case) + 2);
     replay_calls(
         sheet,
         frame,
@@ -464,6 +479,23 @@ fn replay_case(list: &[u8], at: usize, counts: &mut [u64; 17], number: u64) -> u
     )
 }
 
+// Replays the case at an offset; the offset after it, or 0 where the list ends in it.
+fn replay_case(list: &[u8], at: usize, counts: &mut [u64; 17], number: u64) -> usize
+    requires { ⌜ at ≤ length (now list) ⌝ }
+    ensures { λ r. ⌜ r ≤ length (now (list .entry)) ⌝ }
+{
+    let case = rest(list, at);
+    let end = output_at(case);
+    let calls = at + end + 4;
+    if calls > list.len() {
+        return 0;
+    }
+    let s = length_at(case, 0);
+    let f = length_at(case, frame_at(case));
+    let o = length_at(case, end);
+    with_slices(list, case, calls, counts, number, s, f, o)
+}
+
 // Replays the cases, and gives their number.
 fn replay_cases(list: &[u8], counts: &mut [u64; 17]) -> u64 {
     let mut number = 0;
@@ -472,7 +504,7 @@ fn replay_cases(list: &[u8], counts: &mut [u64; 17]) -> u64 {
         number += 1;
         let next = replay_case(list, at, counts, number);
         if next <= at {
-            write_line(b"the list ends in case", number);
+            write_line(b"cut in case", number);
             return number;
         }
         at = next;
@@ -480,24 +512,14 @@ fn replay_cases(list: &[u8], counts: &mut [u64; 17]) -> u64 {
     number
 }
 
-fn write_counts(counts: [u64; 17]) {
-    write_line(b"check", counts[0]);
-    write_line(b"index", counts[1]);
-    write_line(b"contains", counts[2]);
-    write_line(b"bounding_box", counts[3]);
-    write_line(b"draw_item", counts[4]);
-    write_line(b"draw_whitespace", counts[5]);
-    write_line(b"draw", counts[6]);
-    write_line(b"set_text", counts[7]);
-    write_line(b"set_place", counts[8]);
-    write_line(b"set_style", counts[9]);
-    write_line(b"set_text_on_sheet", counts[10]);
-    write_line(b"set_place_on_sheet", counts[11]);
-    write_line(b"set_style_on_sheet", counts[12]);
-    write_line(b"write_page", counts[13]);
-    write_line(b"walk", counts[14]);
-    write_line(b"refused", counts[15]);
-    write_line(b"differences", counts[16]);
+// Writes how often each kind of call was answered.
+fn write_kinds(counts: [u64; 17]) {
+    let mut kind: usize = 0;
+    while kind < 15 {
+        write_named(b"kind", kind as u64);
+        write_line(b":", counts[kind]);
+        kind += 1;
+    }
 }
 
 // Whether the list's first word is 'WPL1', and its second its length.
@@ -508,6 +530,14 @@ fn is_list(list: &[u8]) -> bool {
     number_at(list, 4) as usize == list.len()
 }
 
+// Writes what was met.
+fn write_counts(cases: u64, counts: [u64; 17]) {
+    write_line(b"cases", cases);
+    write_kinds(counts);
+    write_line(b"refused", counts[15]);
+    write_line(b"differences", counts[16]);
+}
+
 // Replays a list, and writes what was met.
 fn replay_list(list: &[u8]) {
     if !is_list(list) {
@@ -516,11 +546,10 @@ fn replay_list(list: &[u8]) {
     }
     let mut counts = [0u64; 17];
     let cases = replay_cases(list, &mut counts);
+    write_counts(cases, counts);
     if number_at(list, 8) as u64 != cases {
-        write_word(b"the list says another number of cases\n");
+        write_word(b"cut\n");
     }
-    write_line(b"cases", cases);
-    write_counts(counts);
 }
 
 fn main() {
