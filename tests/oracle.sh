@@ -49,7 +49,7 @@ make_program() {
 }
 
 make_list_again() {
-  target/oracle/list > "$log/list" && cmp "$log/list" "$list"
+  target/oracle/list > "$log/made_list" && cmp "$log/made_list" "$list"
 }
 
 # The number that two bytes of the list store.
