@@ -1,8 +1,9 @@
 #!/usr/bin/env bash
 # Builds and runs the measurements:
 #
-#   bench/run.sh [FOLDER]
+#   bench/run.sh [quick] [FOLDER]
 #
+# With 'quick' everything runs once: the pages are compared, and the times say nothing.
 # FOLDER has the listed files of embedded-graphics 0.8.2 (default: ../shared/docs/src). The exported
 # calls are those of target/staticlib/libstation.a ('rt staticlib station'); without it only the
 # crate's own times are printed, and the declarations are compiled.
@@ -10,6 +11,11 @@ set -euo pipefail
 cd "$(dirname "$0")/.."
 . oracle/crates.sh
 
+words=()
+if [ "${1:-}" = quick ]; then
+  words=(quick)
+  shift
+fi
 folder=${1:-../shared/docs/src}
 out=target/bench
 flags=(-C opt-level=3 -C codegen-units=1)
@@ -22,4 +28,4 @@ if [ ! -f target/staticlib/libstation.a ]; then
     bench/src/main.rs
 fi
 build_program "$out" bench bench/src/main.rs "${flags[@]}" -C lto=fat
-exec "$out/bench"
+exec "$out/bench" "${words[@]}"

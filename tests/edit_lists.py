@@ -221,7 +221,7 @@ def edit(sheet, kind, n, data):
 
 def stored(kind, n, data):
     if kind == 'place':
-        return struct.pack('<BIII', 1, n, *(z + 2097152 for z in data))
+        return struct.pack('<BIii', 1, n, *data)
     return struct.pack('<BIH', {'text': 0, 'style': 2}[kind], n, len(data)) + data
 
 

@@ -1,6 +1,7 @@
 //! Prints the times of the exported calls beside those of the crate's own code, measured in the
 //! same run. The crate draws on its faster kind of frame, which fills its own rows; its fonts and
 //! texts are made beforehand, and it has no check. Each exported call runs the whole check first.
+//! With the word 'quick' everything runs once, and only what is compared counts.
 
 #[cfg(library)]
 #[path = "../../oracle/src/host.rs"]
@@ -14,11 +15,12 @@ use embedded_graphics::mono_font::MonoFont;
 use embedded_graphics::pixelcolor::Gray8;
 use embedded_graphics::Drawable;
 use oracle::fields::{Font, Header, Item};
-use oracle::frame::RowFrame;
+use oracle::frame::{RowFrame, WholeFrame};
 use oracle::model::SheetModel;
 use oracle::reply::{Area, Edit};
 use oracle::sheet::{glyph_mapping, mono_font, text, GreyText};
 use oracle::Station;
+use std::convert::Infallible;
 use std::hint::black_box;
 use timing::best;
 
@@ -64,8 +66,18 @@ impl<'a> Made<'a> {
         }
     }
 
-    fn draw(&self, frame: &mut [u8]) {
-        let mut frame = RowFrame::new(frame, self.header.width, self.header.height);
+    fn draw(&self, frame: &mut [u8], clear: Clear) {
+        let Header { width, height, .. } = self.header;
+        match clear {
+            Clear::ByRow => self.draw_on(RowFrame::new(frame, width, height)),
+            Clear::AtOnce => self.draw_on(WholeFrame::new(frame, width, height)),
+        }
+    }
+
+    fn draw_on<D>(&self, mut frame: D)
+    where
+        D: DrawTarget<Color = Gray8, Error = Infallible>,
+    {
         let Ok(()) = frame.clear(Gray8::new(self.header.paper));
         for text in &self.texts {
             let Ok(_) = black_box(text).draw(&mut frame);
@@ -73,16 +85,39 @@ impl<'a> Made<'a> {
     }
 }
 
+/// How the crate's frame is cleared before a page is drawn.
+#[derive(Clone, Copy)]
+enum Clear {
+    /// As the trait does it: a filling of the bounding box, which the frame fills row by row.
+    ByRow,
+    /// By one fill of all greys.
+    AtOnce,
+}
+
 fn draw_pages(station: &dyn Station) {
     println!("a page, ns                             station     check     crate   ratio   without the check");
-    let pages: [(&str, SheetModel); 5] = [
-        ("64 lines of 32, 320 x 200, background", pages::lines(1)),
-        ("64 lines of 32, 320 x 200, text only", pages::lines(0)),
-        ("dense, 256 x 256", pages::dense()),
-        ("8 characters, end of 65,536", pages::last_characters()),
-        ("empty, 320 x 200", pages::empty()),
+    use Clear::{AtOnce, ByRow};
+    let pages: [(&str, SheetModel, Clear); 6] = [
+        (
+            "64 lines of 32, 320 x 200, background",
+            pages::lines(1),
+            AtOnce,
+        ),
+        (
+            "64 lines of 32, 320 x 200, text only",
+            pages::lines(0),
+            AtOnce,
+        ),
+        ("dense, 256 x 256", pages::dense(), AtOnce),
+        (
+            "8 characters, end of 65,536",
+            pages::last_characters(),
+            AtOnce,
+        ),
+        ("empty, 320 x 200, crate by row", pages::empty(), ByRow),
+        ("empty, 320 x 200, crate at once", pages::empty(), AtOnce),
     ];
-    for (name, model) in pages {
+    for (name, model, clear) in pages {
         let sheet = model.encode();
         assert_eq!(station.check(&sheet), 0);
         let mappings = Made::mappings(&sheet);
@@ -97,7 +132,7 @@ fn draw_pages(station: &dyn Station) {
             &mut || {
                 black_box(station.check(black_box(&sheet)));
             },
-            &mut || made.draw(black_box(&mut crates_frame)),
+            &mut || made.draw(black_box(&mut crates_frame), clear),
         ]);
         assert!(frame == crates_frame, "the pages differ");
         println!(

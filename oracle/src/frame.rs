@@ -1,5 +1,5 @@
 //! Frames of greys as draw targets of the crate: one that paints pixel by pixel, one that fills its
-//! own rows, and one that drops everything.
+//! own rows, the same with one fill of all greys where it is cleared, and one that drops everything.
 
 use core::convert::Infallible;
 use embedded_graphics::{
@@ -58,7 +58,8 @@ impl DrawTarget for PixelFrame<'_> {
     }
 }
 
-/// A frame that fills its own rows: the faster kind.
+/// A frame that fills its own rows: the faster kind. It is cleared as the trait does it, by a filling of
+/// its bounding box.
 pub struct RowFrame<'a>(PixelFrame<'a>);
 
 impl<'a> RowFrame<'a> {
@@ -130,9 +131,51 @@ impl DrawTarget for RowFrame<'_> {
         }
         Ok(())
     }
+}
+
+/// A frame that fills its own rows and, where it is cleared, all of its greys at once.
+pub struct WholeFrame<'a>(RowFrame<'a>);
+
+impl<'a> WholeFrame<'a> {
+    /// A frame over lent greys, by row.
+    pub fn new(greys: &'a mut [u8], width: u32, height: u32) -> Self {
+        Self(RowFrame::new(greys, width, height))
+    }
+}
+
+impl OriginDimensions for WholeFrame<'_> {
+    fn size(&self) -> Size {
+        self.0.size()
+    }
+}
+
+impl DrawTarget for WholeFrame<'_> {
+    type Color = Gray8;
+    type Error = Infallible;
+
+    #[inline]
+    fn draw_iter<I>(&mut self, pixels: I) -> Result<(), Infallible>
+    where
+        I: IntoIterator<Item = Pixel<Gray8>>,
+    {
+        self.0.draw_iter(pixels)
+    }
+
+    #[inline]
+    fn fill_contiguous<I>(&mut self, area: &Rectangle, colors: I) -> Result<(), Infallible>
+    where
+        I: IntoIterator<Item = Gray8>,
+    {
+        self.0.fill_contiguous(area, colors)
+    }
+
+    #[inline]
+    fn fill_solid(&mut self, area: &Rectangle, color: Gray8) -> Result<(), Infallible> {
+        self.0.fill_solid(area, color)
+    }
 
     fn clear(&mut self, color: Gray8) -> Result<(), Infallible> {
-        self.0.greys.fill(color.luma());
+        self.0 .0.greys.fill(color.luma());
         Ok(())
     }
 }

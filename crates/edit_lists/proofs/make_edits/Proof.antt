@@ -27,26 +27,14 @@ add-number c = search needs
 write-head-requires : tie.Need-write-head-requires Inv-loop μ-loop
 write-head-requires c κs = search needs
 
-sub-make-edit : tie.Need-sub-make-edit Inv-loop μ-loop
-sub-make-edit c = search needs
-
-part-make-edit-start : tie.Need-part-make-edit-start Inv-loop μ-loop
-part-make-edit-start c = search needs
-
-part-make-edit-end : tie.Need-part-make-edit-end Inv-loop μ-loop
-part-make-edit-end c = search needs
+rest-requires : tie.Need-rest-requires Inv-loop μ-loop
+rest-requires c κs = search needs
 
 make-edit-requires : tie.Need-make-edit-requires Inv-loop μ-loop
 make-edit-requires c κs = search needs
 
-sub-edit-size : tie.Need-sub-edit-size Inv-loop μ-loop
-sub-edit-size c = search needs
-
-part-edit-size-start : tie.Need-part-edit-size-start Inv-loop μ-loop
-part-edit-size-start c = search needs
-
-part-edit-size-end : tie.Need-part-edit-size-end Inv-loop μ-loop
-part-edit-size-end c = search needs
+rest-requires-2 : tie.Need-rest-requires-2 Inv-loop μ-loop
+rest-requires-2 c κs = search needs
 
 edit-size-requires : tie.Need-edit-size-requires Inv-loop μ-loop
 edit-size-requires c κs = search needs
@@ -84,13 +72,9 @@ make-edits-spec =
     loop-holds
     add-number
     write-head-requires
-    sub-make-edit
-    part-make-edit-start
-    part-make-edit-end
+    rest-requires
     make-edit-requires
-    sub-edit-size
-    part-edit-size-start
-    part-edit-size-end
+    rest-requires-2
     edit-size-requires
     after-requires
     loop-less

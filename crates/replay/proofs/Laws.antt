@@ -1,0 +1,87 @@
+-- Laws of parts, of stored bytes and of signed numbers. Assumes nothing.
+use Prim.Native.Nat.{ℕ, zero, suc, _+_, _-_, _^_, _≤_, _<_, min}
+use native.Mathlib.Decide.{decLe}
+use native.Mathlib.Omega.{arith}
+use mathlib.Core.Path.{_≡_, refl, sym, ap, _∙_}
+use mathlib.Core.Bool.{true, false}
+use mathlib.Core.List.{List, [], _∷_, _++_, append-assoc, append-nil}
+use lib.Dec.{leb, eqb}
+use lib.IntN.{ℤ, pos, negsuc, _-ℤ_}
+use lib.ListN.{length, getD, take, drop, length-take, length-drop, drop-of-length-le}
+use lib.Seq.{sets, sets-eq, take-all, take-length, drop-drop}
+use mir.Syntax.{w32}
+use mir.Val.{toZ, ofZ, SFits}
+use mir.Facts.{toZ-pos}
+use borrow.Author.Tests.{le-leb, lt-leb, eq-eqb, eqb-true}
+use Rattle.replay.specs.Stored.{stored}
+
+-- ---- a part that the end of the list cuts
+
+take-min : (n : ℕ) (l : List ℕ) → take (min n (length l)) l ≡ take n l
+take-min n l =
+    elim (decLe n (length l)) [
+      | yes h ↦ let e : min n (length l) ≡ n = omega arith in rw e
+      | no h ↦ take-all (min n (length l)) l (omega arith) ∙ sym (take-all n l (omega arith))
+    ]
+
+drop-min : (n : ℕ) (l : List ℕ) → drop (min n (length l)) l ≡ drop n l
+drop-min n l =
+    elim (decLe n (length l)) [
+      | yes h ↦ let e : min n (length l) ≡ n = omega arith in rw e
+      | no h ↦ drop-of-length-le l {i = min n (length l)} (omega arith) ∙ sym (drop-of-length-le l {i = n} (omega arith))
+    ]
+
+pub part-is : (l : List ℕ) (from size start n : ℕ) → start ≡ min from (length l) → n ≡ min size (length l - start) → take (start + n - start) (drop start l) ≡ take size (drop from l)
+part-is l from size start n s e =
+    let k : start + n - start ≡ min size (length (drop start l)) = omega (arith, length-drop start l) in
+    rw k (take-min size (drop start l) ∙ ap (take size) (ap (λ (j : ℕ). drop j l) s ∙ drop-min from l))
+
+pub rest-is : (l r : List ℕ) (at : ℕ) → r ≡ take (length l) (drop at l) → r ≡ drop at l
+rest-is l r at e = e ∙ take-all (length l) (drop at l) (simp length-drop (omega arith))
+
+-- ---- bytes stored
+
+module _ (l bytes : List ℕ) (at : ℕ) where
+  stored-not : length l < at + length bytes → (false ≡ leb (at + length bytes) (length l)) × (l ≡ stored l at bytes)
+  unfolding stored
+  stored-not h = rw (lt-leb (at + length bytes) (length l) h) (refl, refl)
+
+  pub stored-past : length l < at → (false ≡ leb (at + length bytes) (length l)) × (l ≡ stored l at bytes)
+  stored-past h = stored-not (omega arith)
+
+  pub stored-cut : at ≤ length l → length l - at < length bytes → (false ≡ leb (at + length bytes) (length l)) × (l ≡ stored l at bytes)
+  stored-cut g h = stored-not (omega arith)
+
+  pub stored-all : (part : List ℕ) → at ≤ length l → length bytes ≤ length l - at → part ≡ take (length bytes) bytes ++ drop (length bytes) (take (at + length bytes - at) (drop at l))
+      → (true ≡ leb (at + length bytes) (length l)) × (take at l ++ (part ++ drop (at + length bytes - at) (drop at l)) ≡ stored l at bytes)
+  unfolding stored
+  stored-all part f g e =
+      let h : at + length bytes ≤ length l = omega arith in
+      let n : at + length bytes - at ≡ length bytes = omega arith in
+      let d : drop (length bytes) (take (length bytes) (drop at l)) ≡ [] = drop-of-length-le (take (length bytes) (drop at l)) {i = length bytes} (simp length-take (omega arith)) in
+      let p : part ≡ bytes = e ∙ rw (n, d, take-length bytes) (append-nil bytes) in
+      rw (le-leb (at + length bytes) (length l) h) (refl, rw (p, n, drop-drop (length bytes) at l, ← append-assoc (take at l) bytes (drop (at + length bytes) l)) (sym (sets-eq bytes l at h)))
+
+-- ---- two's complement
+
+below-zero : (m : ℕ) → m < 2 ^ 31 → toZ w32 (2 ^ 32 - 1) -ℤ toZ w32 m ≡ negsuc m
+below-zero m h = rw (toZ-pos w32 {n = m} h) (from-one m)
+  where
+    from-one : (k : ℕ) → negsuc 0 -ℤ pos k ≡ negsuc k
+    from-one zero = refl
+    from-one (suc k) = ap negsuc (omega arith)
+
+pub below-fits : (n : ℕ) → 2 ^ 31 ≤ n → n < 2 ^ 32 → SFits w32 (toZ w32 (2 ^ 32 - 1) -ℤ toZ w32 (4_294_967_295 - n))
+below-fits n g h = rw (below-zero (4_294_967_295 - n) (omega arith)) (record { sfits = omega arith })
+
+pub below-is : (n : ℕ) → 2 ^ 31 ≤ n → n < 2 ^ 32 → toZ w32 (ofZ w32 (toZ w32 (2 ^ 32 - 1) -ℤ toZ w32 (4_294_967_295 - n))) ≡ toZ w32 n
+below-is n g h = rw (below-zero (4_294_967_295 - n) (omega arith)) (let e : 2 ^ 32 - suc (4_294_967_295 - n) ≡ n = omega arith in ap (toZ w32) e)
+
+-- ---- the numbers of two replies
+
+pub unlike : (k : ℕ) (a b : List ℕ) → (getD a k 0 ≡ getD b k 0 → ⊥) → (false ≡ true → a ≡ b) × (a ≡ b → false ≡ true)
+unlike k a b h = ((λ e. absurd (let z : _≡_ {A = ℕ} 0 1 = cc in omega arith)), (λ e. absurd (h (ap (λ (l : List ℕ). getD l k 0) e))))
+
+pub alike : {k k′ x x′ y y′ z z′ : ℕ} (w w′ : ℕ) → k ≡ k′ → x ≡ x′ → y ≡ y′ → z ≡ z′
+    → (eqb w w′ ≡ true → k ∷ x ∷ y ∷ z ∷ w ∷ [] ≡ k′ ∷ x′ ∷ y′ ∷ z′ ∷ w′ ∷ []) × (k ∷ x ∷ y ∷ z ∷ w ∷ [] ≡ k′ ∷ x′ ∷ y′ ∷ z′ ∷ w′ ∷ [] → eqb w w′ ≡ true)
+alike w w′ p q r s = ((λ e. let t = eqb-true w w′ e in rw (p, q, r, s, t)), (λ e. eq-eqb w w′ (ap (λ (l : List ℕ). getD l 4 0) e)))

@@ -1,0 +1,10 @@
+-- The numbers of a reply. Assumes nothing.
+use Prim.Native.Nat.{ℕ}
+use mathlib.Core.List.{List, [], _∷_}
+use mir.Syntax.{w32}
+use mir.Val.{ofZ}
+use Rattle.calls.specs.declared.Box.{Box}
+
+-- a reply's five numbers as a list stores them: in two's complement where signed
+abbrev pub numbers : Box → List ℕ
+numbers r = r .code ∷ ofZ w32 (r .left) ∷ ofZ w32 (r .top) ∷ r .width ∷ r .height ∷ []

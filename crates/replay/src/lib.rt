@@ -1,0 +1,175 @@
+// What the programs that replay a stored list share: numbers and parts read from it, replies compared, bytes stored, and words
+// written to standard output. A list that ends early has zeros for the missing bytes, and shorter parts.
+use libc::STDOUT_FILENO;
+use station::Box;
+ghost use mathlib.Core.Path.{_≡_};
+ghost use mathlib.Core.Bool.{true};
+ghost use Prim.Native.Nat.{_+_, _*_, _^_, _<_, min};
+ghost use lib.Dec.{leb};
+ghost use lib.ListN.{length, getD, take, drop};
+ghost use mir.Syntax.{w32};
+ghost use mir.Val.{toZ};
+ghost use Rattle.replay.specs.Replies.{numbers};
+ghost use Rattle.replay.specs.Stored.{stored};
+
+fn wide(byte: u8) -> u32
+    ensures { λ r. ⌜ (r ≡ byte) × (r < 2 ^ 8) ⌝ }
+{
+    byte as u32
+}
+
+// The byte at `at`, or 0 past the end.
+pub fn byte_or_zero(bytes: &[u8], at: usize) -> u8
+    ensures { λ r. ⌜ r ≡ getD (now (bytes .entry)) at 0 ⌝ }
+{
+    if at < bytes.len() {
+        return bytes[at];
+    }
+    0
+}
+
+// The number that the first two bytes store.
+pub fn u16_of(bytes: &[u8]) -> u32
+    ensures { λ r. ⌜ (r ≡ getD (now (bytes .entry)) 0 0 + 256 * getD (now (bytes .entry)) 1 0) × (r < 2 ^ 16) ⌝ }
+{
+    wide(byte_or_zero(bytes, 0)) + 256 * wide(byte_or_zero(bytes, 1))
+}
+
+// The number that the first four bytes store.
+pub fn u32_of(bytes: &[u8]) -> u32
+    ensures { λ r. ⌜ r ≡ getD (now (bytes .entry)) 0 0 + 256 * getD (now (bytes .entry)) 1 0 + 65536 * getD (now (bytes .entry)) 2 0 + 16777216 * getD (now (bytes .entry)) 3 0 ⌝ }
+{
+    wide(byte_or_zero(bytes, 0))
+        + 256 * wide(byte_or_zero(bytes, 1))
+        + 65536 * wide(byte_or_zero(bytes, 2))
+        + 16777216 * wide(byte_or_zero(bytes, 3))
+}
+
+// The signed number whose 32 bits in two's complement are those of `n`.
+pub fn signed(n: u32) -> i32
+    ensures { λ r. ⌜ r ≡ toZ w32 n ⌝ }
+{
+    if n < 2147483648 {
+        return n as i32;
+    }
+    let rest = 4294967295 - n;
+    -1 - rest as i32
+}
+
+// The smaller of two numbers.
+pub fn least(a: usize, b: usize) -> usize
+    ensures { λ r. ⌜ r ≡ min a b ⌝ }
+{
+    if a < b {
+        return a;
+    }
+    b
+}
+
+// As many of `size` bytes from `from` on as there are.
+pub fn part(bytes: &[u8], from: usize, size: usize) -> &[u8]
+    ensures { λ r. ⌜ now r ≡ take size (drop from (now (bytes .entry))) ⌝ }
+{
+    let start = least(from, bytes.len());
+    let end = start + least(size, bytes.len() - start);
+    &bytes[start..end]
+}
+
+// The bytes from `at` on.
+pub fn rest(bytes: &[u8], at: usize) -> &[u8]
+    ensures { λ r. ⌜ now r ≡ drop at (now (bytes .entry)) ⌝ }
+{
+    part(bytes, at, bytes.len())
+}
+
+// Stores bytes from `at` on and answers true, or false where they do not fit; then nothing is stored.
+pub fn store(to: &mut [u8], at: usize, bytes: &[u8]) -> bool
+    ensures { λ r. ⌜ r ≡ leb (at + length (now (bytes .entry))) (length (now (to .entry))) ⌝ }
+    ensures { λ _. ⌜ now (to .exit) ≡ stored (now (to .entry)) at (now (bytes .entry)) ⌝ }
+{
+    if at > to.len() {
+        return false;
+    }
+    if bytes.len() > to.len() - at {
+        return false;
+    }
+    let end = at + bytes.len();
+    bytes::copy(bytes, &mut to[at..end]);
+    true
+}
+
+// Whether two replies are the same. A reply of fewer numbers than a rectangle's has zeros for the others.
+pub fn same_reply(a: Box, b: Box) -> bool
+    ensures { λ r. ⌜ (r ≡ true → numbers a ≡ numbers b) × (numbers a ≡ numbers b → r ≡ true) ⌝ }
+{
+    if a.code != b.code {
+        return false;
+    }
+    if a.left != b.left {
+        return false;
+    }
+    if a.top != b.top {
+        return false;
+    }
+    if a.width != b.width {
+        return false;
+    }
+    a.height == b.height
+}
+
+// Makes an edit with a frame: 0 a new text, 1 a new place, 2 a new style.
+pub fn edit(
+    sheet: &mut [u8],
+    frame: &mut [u8],
+    kind: u8,
+    item: u32,
+    x: i32,
+    y: i32,
+    text: &[u8],
+) -> Box {
+    if kind == 0 {
+        return station::station_set_text(sheet, frame, item, text);
+    }
+    if kind == 1 {
+        return station::station_set_place(sheet, frame, item, x, y);
+    }
+    station::station_set_style(sheet, frame, item, text)
+}
+
+// Makes an edit on the sheet alone.
+pub fn edit_on_sheet(sheet: &mut [u8], kind: u8, item: u32, x: i32, y: i32, text: &[u8]) -> Box {
+    if kind == 0 {
+        return station::station_set_text_on_sheet(sheet, item, text);
+    }
+    if kind == 1 {
+        return station::station_set_place_on_sheet(sheet, item, x, y);
+    }
+    station::station_set_style_on_sheet(sheet, item, text)
+}
+
+// Writes a word to standard output.
+pub fn write_word(text: &[u8]) {
+    io::write_all(STDOUT_FILENO, text);
+}
+
+// Writes a number in decimal after a blank.
+pub fn write_number(n: u64) {
+    write_word(b" ");
+    io::print_decimal(STDOUT_FILENO, n);
+}
+
+// Writes a word and a number as a line.
+pub fn write_line(text: &[u8], n: u64) {
+    write_word(text);
+    write_number(n);
+    write_word(b"\n");
+}
+
+// Writes one of two words.
+pub fn write_either(first: bool, yes: &[u8], no: &[u8]) {
+    if first {
+        write_word(yes);
+        return;
+    }
+    write_word(no);
+}

@@ -1,0 +1,105 @@
+#!/usr/bin/env bash
+# Tests of the oracle, of the stored list and of the bench, for a machine with rustc:
+#
+#   tests/oracle.sh
+#
+# Builds what is missing, compares the exported calls with the oracle on some cases, tries the known
+# mistakes, makes the stored list again, shows that its replay notices a changed byte, and compares
+# the bench's pages. The last line is 'N passed, M failed'.
+set -uo pipefail
+cd "$(dirname "$0")/.."
+
+folder=../shared/docs/src
+list=crates/oracle_list/stdin
+if ! command -v rustc > /dev/null; then
+  echo 'skipped: no rustc, so the oracle and the bench are not built'
+  exit 0
+fi
+if [ ! -d "$folder" ]; then
+  echo "skipped: no $folder, so the oracle and the bench are not built"
+  exit 0
+fi
+
+log=target/log/oracle
+mkdir -p "$log"
+rm -f "$log"/*
+passed=0
+failed=0
+
+# run_test NAME COMMAND..: runs a test, whose output goes to a file of its name.
+run_test() {
+  local name=$1 start=$SECONDS
+  shift
+  if "$@" > "$log/$name" 2>&1; then
+    echo "ok $name ($((SECONDS - start)) s)"
+    passed=$((passed + 1))
+  else
+    echo "FAILED $name ($((SECONDS - start)) s), the end of $log/$name:"
+    tail -n 20 "$log/$name"
+    failed=$((failed + 1))
+  fi
+}
+
+make_library() {
+  [ -f target/staticlib/libstation.a ] || rt staticlib station
+}
+
+make_program() {
+  [ -x target/bin/oracle_list ] || rt check oracle_list
+}
+
+make_list_again() {
+  target/oracle/list > "$log/made_list" && cmp "$log/made_list" "$list"
+}
+
+# The number that two bytes of the list store.
+u16_at() {
+  od -An -tu2 --endian=little -j "$1" -N 2 "$list" | tr -d ' '
+}
+
+# Where the reply of the list's first call stands.
+first_reply() {
+  local frame=$((14 + $(u16_at 12)))
+  local call=$((frame + 2 + $(u16_at "$frame") + 4))
+  echo $((call + 15 + $(u16_at $((call + 13)))))
+}
+
+# notice_changed OFFSET WORD: that a changed byte of the list gives one difference, of this kind.
+notice_changed() {
+  local changed=$log/changed_list byte
+  cp "$list" "$changed" || return
+  byte=$(od -An -tu1 -j "$1" -N 1 "$list") || return
+  printf '%b' "\\x$(printf %02x $((byte ^ 1)))" |
+    dd of="$changed" bs=1 seek="$1" conv=notrunc status=none || return
+  target/bin/oracle_list < "$changed" | tee "$log/replay"
+  grep -qx "difference: case 1, call 1, kind 4: $2" "$log/replay" &&
+    grep -qx 'differences 1' "$log/replay"
+}
+
+# The first call draws: no byte of the sheet is changed, and some of the frame's are.
+notice_changed_bytes() {
+  local reply
+  target/bin/oracle_list < "$list" | cmp - crates/oracle_list/stdout || return
+  reply=$(first_reply)
+  notice_changed "$reply" reply && notice_changed $((reply + 28)) frame
+}
+
+notice_cut() {
+  head -c 100000 "$list" | target/bin/oracle_list | grep -qx 'no list'
+}
+
+run_test library make_library
+run_test build oracle/build.sh "$folder"
+bench/run.sh quick "$folder" > "$log/bench_output" 2>&1 &
+bench=$!
+run_test marked target/oracle/driver marked
+run_test list make_list_again
+run_test compare target/oracle/compare cases 2000
+run_test faults target/oracle/compare faults cases 600
+run_test program make_program
+run_test changed_bytes notice_changed_bytes
+run_test cut_list notice_cut
+run_test bench wait "$bench"
+
+echo "$passed passed, $failed failed"
+[ "$failed" -eq 0 ]
