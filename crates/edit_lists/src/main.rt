@@ -277,21 +277,27 @@ fn length_at(input: &[u8], at: usize) -> usize
     least(u32_of(rest(input, at)) as usize, 65536)
 }
 
-// Makes the list on two sheets and two frames.
-fn with_input(input: &[u8]) {
-    let mut all_patched = [0u8; 65536];
-    let mut all_fresh = [0u8; 65536];
+// Makes the list on two sheets that are lent, and two frames.
+fn with_frames(sheet: &[u8], list: &[u8], patched: &mut [u8], fresh: &mut [u8], area: usize)
+    requires { ⌜ area ≤ 65536 ⌝ }
+{
     let mut all_frame = [0u8; 65536];
     let mut all_before = [0u8; 65536];
-    let size = length_at(input, 0);
-    let area = length_at(input, 4);
-    let sheet = part(input, 8, size);
-    let list = rest(input, 8 + size);
-    let patched = &mut all_patched[0..size];
-    let fresh = &mut all_fresh[0..size];
     let frame = &mut all_frame[0..area];
     let before = &mut all_before[0..area];
     compare(sheet, list, patched, frame, before, fresh);
+}
+
+// Makes the list on two sheets.
+fn with_input(input: &[u8]) {
+    let mut all_patched = [0u8; 65536];
+    let mut all_fresh = [0u8; 65536];
+    let size = length_at(input, 0);
+    let patched = &mut all_patched[0..size];
+    let fresh = &mut all_fresh[0..size];
+    let sheet = part(input, 8, size);
+    let list = rest(input, 8 + size);
+    with_frames(sheet, list, patched, fresh, length_at(input, 4));
 }
 
 fn main() {

@@ -442,6 +442,75 @@ fn output_at(case: &[u8]) -> usize
     at + 2 + length_at(case, at)
 }
 
+// Replays a case on slices that are lent.
+fn on_slices(
+    sheet: &mut [u8],
+    frame: &mut [u8],
+    output: &mut [u8],
+    old: &mut [u8],
+    counts: &mut [u64; 17],
+    list: &[u8],
+    case: &[u8],
+    calls: usize,
+    number: u64,
+) -> usize
+    requires { ⌜ calls ≤ length (now list) ⌝ }
+    ensures { λ r. ⌜ r ≤ length (now (list .entry)) ⌝ }
+{
+    let end = length_at(case, output_at(case) + 2);
+    start(sheet, frame, output, case);
+    replay_calls(sheet, frame, output, old, counts, list, calls, end, number)
+}
+
+// Replays the calls of a case on a sheet and a frame that are lent, and a new output.
+fn with_output(
+    list: &[u8],
+    case: &[u8],
+    calls: usize,
+    counts: &mut [u64; 17],
+    number: u64,
+    sheet: &mut [u8],
+    frame: &mut [u8],
+    o: usize,
+) -> usize
+    requires { ⌜ (calls ≤ length (now list)) × (o < 65536) ⌝ }
+    ensures { λ r. ⌜ r ≤ length (now (list .entry)) ⌝ }
+{
+    let mut all_output = [0u8; 65536];
+    let mut old = [0u8; 196608];
+    let output = &mut all_output[0..o];
+    on_slices(
+        sheet,
+        frame,
+        output,
+        &mut old,
+        counts,
+        list,
+        case,
+        calls,
+        number,
+    )
+}
+
+// Replays the calls of a case on a sheet that is lent, and a new frame and output.
+fn with_frame(
+    list: &[u8],
+    case: &[u8],
+    calls: usize,
+    counts: &mut [u64; 17],
+    number: u64,
+    sheet: &mut [u8],
+    f: usize,
+    o: usize,
+) -> usize
+    requires { ⌜ (calls ≤ length (now list)) × (f < 65536) × (o < 65536) ⌝ }
+    ensures { λ r. ⌜ r ≤ length (now (list .entry)) ⌝ }
+{
+    let mut all_frame = [0u8; 65536];
+    let frame = &mut all_frame[0..f];
+    with_output(list, case, calls, counts, number, sheet, frame, o)
+}
+
 // Replays the calls of a case on new slices of the given lengths.
 fn with_slices(
     list: &[u8],
@@ -453,30 +522,12 @@ fn with_slices(
     f: usize,
     o: usize,
 ) -> usize
-    requires { ⌜ calls ≤ length (now list) ⌝ }
-    requires { ⌜ (s < 65536) × (f < 65536) × (o < 65536) ⌝ }
+    requires { ⌜ (calls ≤ length (now list)) × (s < 65536) × (f < 65536) × (o < 65536) ⌝ }
     ensures { λ r. ⌜ r ≤ length (now (list .entry)) ⌝ }
 {
     let mut all_sheet = [0u8; 65536];
-    let mut all_frame = [0u8; 65536];
-    let mut all_output = [0u8; 65536];
-    let mut old = [0u8; 196608];
     let sheet = &mut all_sheet[0..s];
-    let frame = &mut all_frame[0..f];
-    let output = &mut all_output[0..o];
-    start(sheet, frame, output, case);
-    let end = length_at(case, output_at(case) + 2);
-    replay_calls(
-        sheet,
-        frame,
-        output,
-        &mut old,
-        counts,
-        list,
-        calls,
-        end,
-        number,
-    )
+    with_frame(list, case, calls, counts, number, sheet, f, o)
 }
 
 // Replays the case at an offset; the offset after it, or 0 where the list ends in it.
