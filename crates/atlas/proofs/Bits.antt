@@ -1,5 +1,5 @@
 -- Laws of an atlas's bits: where the bytes of a pixel stand, and which bits of them are the next eight pixels. Assumes nothing.
-use Prim.Native.Nat.{ℕ, zero, suc, _+_, _-_, _*_, _/_, _%_, _^_, _≤_, _<_}
+use Prim.Native.Nat.{ℕ, _+_, _-_, _*_, _/_, _%_, _^_, _≤_, _<_}
 use native.Mathlib.Nat.{add-zero, mul-le-mul-right, div-mul-le-self, add-mul-div-right, add-mul-mod-self-right}
 use native.Mathlib.Decide.{decLt}
 use native.Mathlib.Omega.{arith}
@@ -110,39 +110,14 @@ module _ (bytes : List ℕ) (small : (k : ℕ) → Fits w8 (getD bytes k 0)) (st
   unfolding bitRow imageRow isOn
   bit-row text background i grey h r = ap (λ (n : ℕ). blend (eqb n 1) text background grey) (bit-is-pixel i h r)
 
--- bits 3 to 0, moved up, are pixels 4 to 7
-lower-bits : (bits : ℕ) (text background : OptionalGrey) (i grey : ℕ) → i < 4 → bitRow (bits % 16 * 16) text background i grey ≡ bitRow bits text background (0 + 4 + i) grey
-unfolding bitRow
-lower-bits bits text background i grey h = ap (λ (n : ℕ). blend (eqb n 1) text background grey) (go i h)
-  where
-    go : (i : ℕ) → i < 4 → bits % 16 * 16 / 2 ^ (7 - i) % 2 ≡ bits / 2 ^ (7 - (0 + 4 + i)) % 2
-    go zero h = omega arith
-    go (suc zero) h = omega arith
-    go (suc (suc zero)) h = omega arith
-    go (suc (suc (suc zero))) h = omega arith
-    go (suc (suc (suc (suc i)))) h = absurd (omega arith)
-
--- at most eight pixels, drawn in parts
-module _ (bits : ℕ) (text background : OptionalGrey) (xs part : List ℕ) (e : part ≡ mapIndexed (bitRow bits text background) 0 (take (4 - 0) (drop 0 xs))) where
-  first-four : 4 ≤ length xs → FirstPainted (bitRow bits text background) 0 4 xs (putMid 0 (4 - 0) xs part)
-  first-four h =
-      row-part (bitRow bits text background) (bitRow bits text background) 0 0 4 xs xs part (row-start _ 0 xs) (omega arith) h e
-      (λ i grey l. let z : 0 + 0 + i ≡ i = omega arith in rw z)
-
-  -- just four
-  pub only-four : 4 ≤ length xs → length xs ≤ 4 → putMid 0 (4 - 0) xs part ≡ mapIndexed (bitRow bits text background) 0 xs
-  only-four h most = let p = first-four h in row-end (bitRow bits text background) 0 4 xs _ p (omega (arith, p .size))
-
-  -- four, and the rest from the lower bits
-  pub four-and-rest : (rest : ℕ) (others : List ℕ) → 4 < length xs → length xs ≤ 8 → rest ≡ bits % 16 * 16
-      → others ≡ mapIndexed (bitRow rest text background) 0 (take (length xs - 4) (drop 4 (putMid 0 (4 - 0) xs part)))
-      → putMid 4 (length xs - 4) (putMid 0 (4 - 0) xs part) others ≡ mapIndexed (bitRow bits text background) 0 xs
-  four-and-rest rest others h most low f =
-      let p = first-four (omega arith) in
-      let q =
-      row-part (bitRow bits text background) (bitRow rest text background) 0 4 (length xs) xs (putMid 0 (4 - 0) xs part) others p (omega arith) (omega (arith, p .size)) f
-      (λ i grey l. rw low (lower-bits bits text background i grey (omega arith))) in
-      row-end (bitRow bits text background) 0 (length xs) xs _ q (omega (arith, q .size))
+-- a row of just k pixels, drawn as a part of itself
+pub whole-part : (k bits : ℕ) (text background : OptionalGrey) (xs part : List ℕ) → length xs ≡ k
+    → part ≡ mapIndexed (bitRow bits text background) 0 (take (k - 0) (drop 0 xs)) → putMid 0 (k - 0) xs part ≡ mapIndexed (bitRow bits text background) 0 xs
+whole-part k bits text background xs part n e =
+    let p =
+    row-part (bitRow bits text background) (bitRow bits text background) 0 0 k xs xs part (row-start _ 0 xs) (omega arith) (omega arith) e
+    (λ i grey l. let z : 0 + 0 + i ≡ i = omega arith in rw z) in
+    row-end (bitRow bits text background) 0 k xs _ p (omega (arith, p .size))
 
 -- a loop over a row, drawn in parts from the bits at their first pixel
 module _ (bytes : List ℕ) (stride x y n m bits : ℕ) (text background : OptionalGrey) (xs row part : List ℕ) (small : (k : ℕ) → Fits w8 (getD bytes k 0))
@@ -155,12 +130,12 @@ module _ (bytes : List ℕ) (stride x y n m bits : ℕ) (text background : Optio
       (λ i grey h. rw e (bit-row bytes small stride (x + n) y text background i grey (omega arith) (omega (arith, s .right))))
 
   -- eight pixels
-  pub eight-step : 8 < length row - n → part ≡ mapIndexed (bitRow bits text background) 0 (take (n + 8 - n) (drop n row))
+  pub eight-step : 8 ≤ length row - n → part ≡ mapIndexed (bitRow bits text background) 0 (take (n + 8 - n) (drop n row))
       → FirstPainted (imageRow bytes stride y text background) x (n + 8) xs (putMid n (n + 8 - n) row part)
   eight-step h ep = part-step (n + 8) (omega arith) (omega arith) (omega arith) ep
 
-  -- the rest, at most eight
-  pub rest-step : length row - n ≤ 8 → part ≡ mapIndexed (bitRow bits text background) 0 (take (length row - n) (drop n row))
+  -- the rest, fewer than eight
+  pub rest-step : length row - n < 8 → part ≡ mapIndexed (bitRow bits text background) 0 (take (length row - n) (drop n row))
       → putMid n (length row - n) row part ≡ mapIndexed (imageRow bytes stride y text background) x xs
   rest-step h ep =
       let q = part-step (length row) (omega arith) (omega arith) (omega arith) ep in

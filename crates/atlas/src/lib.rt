@@ -132,31 +132,29 @@ fn draw_pixels(row: &mut [u8], bits: u32, text: OptionalGrey, background: Option
     }
 }
 
-// The same for at most four pixels; a part of just four is drawn without a loop.
-fn draw_four(row: &mut [u8], bits: u32, text: OptionalGrey, background: OptionalGrey)
-    requires { ⌜ length (now row) ≤ 4 ⌝ }
-    ensures { λ _. ⌜ now (row .exit) ≡ mapIndexed (bitRow bits text background) 0 (now (row .entry)) ⌝ }
-{
-    if 4 <= row.len() {
-        draw_pixels(&mut row[0..4], bits, text, background);
-        return;
-    }
-    draw_pixels(row, bits, text, background);
-}
-
-// Draws at most eight pixels, from the bits 7 to 0 of a number, four at a time.
+// The same; four to seven pixels are drawn without a loop.
 fn draw_bits(row: &mut [u8], bits: u32, text: OptionalGrey, background: OptionalGrey)
     requires { ⌜ length (now row) ≤ 8 ⌝ }
     ensures { λ _. ⌜ now (row .exit) ≡ mapIndexed (bitRow bits text background) 0 (now (row .entry)) ⌝ }
 {
     let n = row.len();
-    if n <= 4 {
-        draw_four(row, bits, text, background);
+    if n == 4 {
+        draw_pixels(&mut row[0..4], bits, text, background);
         return;
     }
-    let rest = bits % 16 * 16;
-    draw_four(&mut row[0..4], bits, text, background);
-    draw_four(&mut row[4..n], rest, text, background);
+    if n == 5 {
+        draw_pixels(&mut row[0..5], bits, text, background);
+        return;
+    }
+    if n == 6 {
+        draw_pixels(&mut row[0..6], bits, text, background);
+        return;
+    }
+    if n == 7 {
+        draw_pixels(&mut row[0..7], bits, text, background);
+        return;
+    }
+    draw_pixels(row, bits, text, background);
 }
 
 // Draws a row of pixels, eight at a time, from the atlas's pixel (x, y) on.
@@ -173,10 +171,10 @@ fn draw_row(
     ensures { λ _. ⌜ now (row .exit) ≡ mapIndexed (imageRow (now (bytes .entry)) stride y text background) x (now (row .entry)) ⌝ }
 {
     let mut i = 0;
-    while 8 < row.len() - i {
+    while 8 <= row.len() - i {
         let e = i + 8;
         let bits = bits_at(bytes, stride, x + i, y);
-        draw_bits(&mut row[i..e], bits, text, background);
+        draw_pixels(&mut row[i..e], bits, text, background);
         i = e;
     }
     let n = row.len();

@@ -29,17 +29,17 @@ add-bits-at c = search needs
 bits-at-requires : tie.Need-bits-at-requires Inv-loop μ-loop
 bits-at-requires c κs = search needs
 
-sub-draw-bits : tie.Need-sub-draw-bits Inv-loop μ-loop
-sub-draw-bits c = search needs
+sub-draw-pixels : tie.Need-sub-draw-pixels Inv-loop μ-loop
+sub-draw-pixels c = search needs
 
-part-draw-bits-start : tie.Need-part-draw-bits-start Inv-loop μ-loop
-part-draw-bits-start c = search needs
+part-draw-pixels-start : tie.Need-part-draw-pixels-start Inv-loop μ-loop
+part-draw-pixels-start c = search needs
 
-part-draw-bits-end : tie.Need-part-draw-bits-end Inv-loop μ-loop
-part-draw-bits-end c = search needs
+part-draw-pixels-end : tie.Need-part-draw-pixels-end Inv-loop μ-loop
+part-draw-pixels-end c = search needs
 
-draw-bits-requires : tie.Need-draw-bits-requires Inv-loop μ-loop
-draw-bits-requires c κs = search needs
+draw-pixels-requires : tie.Need-draw-pixels-requires Inv-loop μ-loop
+draw-pixels-requires c κs = search needs
 
 loop-less : tie.Need-loop-less Inv-loop μ-loop
 loop-less c = search needs
@@ -53,17 +53,17 @@ add-bits-at-2 c = search needs
 bits-at-requires-2 : tie.Need-bits-at-requires-2 Inv-loop μ-loop
 bits-at-requires-2 c κs = search needs
 
-sub-draw-bits-2 : tie.Need-sub-draw-bits-2 Inv-loop μ-loop
-sub-draw-bits-2 c = search needs
+sub-draw-bits : tie.Need-sub-draw-bits Inv-loop μ-loop
+sub-draw-bits c = search needs
 
-part-draw-bits-start-2 : tie.Need-part-draw-bits-start-2 Inv-loop μ-loop
-part-draw-bits-start-2 c = search needs
+part-draw-bits-start : tie.Need-part-draw-bits-start Inv-loop μ-loop
+part-draw-bits-start c = search needs
 
-part-draw-bits-end-2 : tie.Need-part-draw-bits-end-2 Inv-loop μ-loop
-part-draw-bits-end-2 c = search needs
+part-draw-bits-end : tie.Need-part-draw-bits-end Inv-loop μ-loop
+part-draw-bits-end c = search needs
 
-draw-bits-requires-2 : tie.Need-draw-bits-requires-2 Inv-loop μ-loop
-draw-bits-requires-2 c κs = search needs
+draw-bits-requires : tie.Need-draw-bits-requires Inv-loop μ-loop
+draw-bits-requires c κs = search needs
 
 same-length : tie.Need-same-length Inv-loop μ-loop
 same-length c = search needs
@@ -88,18 +88,18 @@ draw-row-spec =
     add-e
     add-bits-at
     bits-at-requires
-    sub-draw-bits
-    part-draw-bits-start
-    part-draw-bits-end
-    draw-bits-requires
+    sub-draw-pixels
+    part-draw-pixels-start
+    part-draw-pixels-end
+    draw-pixels-requires
     loop-less
     loop-again
     add-bits-at-2
     bits-at-requires-2
-    sub-draw-bits-2
-    part-draw-bits-start-2
-    part-draw-bits-end-2
-    draw-bits-requires-2
+    sub-draw-bits
+    part-draw-bits-start
+    part-draw-bits-end
+    draw-bits-requires
     same-length
     returns
     same-length-2
