@@ -132,7 +132,7 @@ fn draw_pixels(row: &mut [u8], bits: u32, text: OptionalGrey, background: Option
     }
 }
 
-// The same; four to seven pixels are drawn without a loop.
+// The same; four to six pixels are drawn without a loop.
 fn draw_bits(row: &mut [u8], bits: u32, text: OptionalGrey, background: OptionalGrey)
     requires { ⌜ length (now row) ≤ 8 ⌝ }
     ensures { λ _. ⌜ now (row .exit) ≡ mapIndexed (bitRow bits text background) 0 (now (row .entry)) ⌝ }
@@ -148,10 +148,6 @@ fn draw_bits(row: &mut [u8], bits: u32, text: OptionalGrey, background: Optional
     }
     if n == 6 {
         draw_pixels(&mut row[0..6], bits, text, background);
-        return;
-    }
-    if n == 7 {
-        draw_pixels(&mut row[0..7], bits, text, background);
         return;
     }
     draw_pixels(row, bits, text, background);

@@ -82,14 +82,17 @@ module _ (b : List ℕ) (area : Rectangle) where
       ∙ e
 
   -- an item whose ink box shares no pixel with the area changes nothing there
-  pub item-missed : (n : ℕ) (frame : List ℕ) (ink met : Rectangle) (t : Bool) → ink ≡ itemInk b n → met ≡ intersection ink area → t ≡ isEmpty met → t ≡ true → frame ≡ paintIn (frameWidth b) area (itemLayer b n) frame
+  pub item-missed : (n : ℕ) (frame : List ℕ) (t : Bool) → (t ≡ true → isEmpty (intersection (itemInk b n) area) ≡ true) → t ≡ true → frame ≡ paintIn (frameWidth b) area (itemLayer b n) frame
   unfolding itemLayer itemInk
-  item-missed n frame ink met t ei em et q = paint-disjoint (frameWidth b) area (itemInk b n) (itemLayer b n) frame
+  item-missed n frame t h q = paint-disjoint (frameWidth b) area (itemInk b n) (itemLayer b n) frame
       (λ c r grey o. layer-out (itemFont b n) (item b n) c r grey o)
       (λ c r i j.
       let k = in-not-empty (intersection (itemInk b n) area) c r (intersection-in c r (itemInk b n) area j i) in
-      let e : isEmpty met ≡ isEmpty (intersection (itemInk b n) area) = rw (em, ei) in
+      let e = h q in
       let z : _≡_ {A = ℕ} 0 1 = cc in omega arith)
+
+  pub missed : (n : ℕ) (ink met : Rectangle) (t : Bool) → ink ≡ itemInk b n → met ≡ intersection ink area → t ≡ isEmpty met → t ≡ true → isEmpty (intersection (itemInk b n) area) ≡ true
+  missed n ink met t ei em et q = rw (← ei, ← em, ← et) q
 
   -- paper, then the items: the page in the area
   pub page-painted : (fw grey : ℕ) (xs ys zs : List ℕ) → fw ≡ frameWidth b → grey ≡ paper b

@@ -11,6 +11,8 @@ ghost use mathlib.Core.Path.{_≡_};
 ghost use Prim.Native.Nat.{_≤_};
 ghost use lib.ListN.{length};
 ghost use Rattle.geometry.specs.Layer.{paint, paintIn, frameOf};
+ghost use mathlib.Core.Bool.{true};
+ghost use Rattle.geometry.specs.Rectangle.{isEmpty, intersection};
 ghost use Rattle.geometry.specs.Canvas.{Canvas};
 ghost use Rattle.text.specs.Text.{next, boundingBox};
 ghost use Rattle.sheet.specs.Fields.{frameWidth, frameHeight};
@@ -84,21 +86,32 @@ fn item_ink(sheet: &[u8], n: u32) -> Rectangle
     text::ink_box(words, font, style, text_style, p.x, p.y)
 }
 
+// Whether the clip does not meet an item's ink box; of a clip that is the whole frame it is not asked.
+fn is_missed(sheet: &[u8], clip: Rectangle, whole: bool, n: u32) -> bool
+    requires { ⌜ ItemListed (now sheet) n ⌝ }
+    ensures { λ r. ⌜ (r ≡ true → isEmpty (intersection (itemInk (now (sheet .entry)) n) clip) ≡ true) ⌝ }
+{
+    if whole {
+        return false;
+    }
+    let met = item_ink(sheet, n).intersection(clip);
+    met.is_empty()
+}
+
 // Draws an item in a clip; one whose ink box the clip does not meet is not drawn.
-fn draw_met_item(sheet: &[u8], frame: &mut [u8], clip: Rectangle, n: u32)
+fn draw_met_item(sheet: &[u8], frame: &mut [u8], clip: Rectangle, whole: bool, n: u32)
     requires { ⌜ ItemListed (now sheet) n ⌝ }
     requires { ⌜ Canvas (frameWidth (now sheet)) (frameHeight (now sheet)) (length (now frame)) clip ⌝ }
     ensures { λ _. ⌜ now (frame .exit) ≡ paintIn (frameWidth (now (sheet .entry))) clip (itemLayer (now (sheet .entry)) n) (now (frame .entry)) ⌝ }
 {
-    let met = item_ink(sheet, n).intersection(clip);
-    if met.is_empty() {
+    if is_missed(sheet, clip, whole, n) {
         return;
     }
     draw_item_in(sheet, frame, clip, n);
 }
 
-// Draws the items in a clip, in order.
-fn draw_items(sheet: &[u8], frame: &mut [u8], clip: Rectangle)
+// Draws the items in a clip, in order; `whole` says that the clip is the frame, which saves the ink boxes.
+fn draw_items(sheet: &[u8], frame: &mut [u8], clip: Rectangle, whole: bool)
     requires { ⌜ Accepted (now sheet) ⌝ }
     requires { ⌜ Canvas (frameWidth (now sheet)) (frameHeight (now sheet)) (length (now frame)) clip ⌝ }
     ensures { λ _. ⌜ now (frame .exit) ≡ paintIn (frameWidth (now (sheet .entry))) clip (itemsLayer (now (sheet .entry)) (order (now (sheet .entry)))) (now (frame .entry)) ⌝ }
@@ -106,7 +119,7 @@ fn draw_items(sheet: &[u8], frame: &mut [u8], clip: Rectangle)
     let items = item_count(sheet);
     let mut n: u32 = 0;
     while n < items {
-        draw_met_item(sheet, frame, clip, n);
+        draw_met_item(sheet, frame, clip, whole, n);
         n += 1;
     }
 }
@@ -121,7 +134,8 @@ pub fn repaint(sheet: &[u8], frame: &mut [u8], area: Rectangle)
     let fh = frame_height(sheet) as usize;
     let grey = sheet::fields::paper(sheet);
     geometry::fill_solid(frame, fw, fh, area, area, grey);
-    draw_items(sheet, frame, area);
+    let whole = (area.width as usize == fw) & (area.height as usize == fh);
+    draw_items(sheet, frame, area, whole);
 }
 
 // Draws the page on a frame of the sheet's size.

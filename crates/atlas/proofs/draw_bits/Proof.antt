@@ -1,4 +1,4 @@
--- `draw_bits` meets its contract: a part of four to seven pixels is the whole row of that many. Assumes nothing.
+-- `draw_bits` meets its contract: a part of four to six pixels is the whole row of that many. Assumes nothing.
 use borrow.Author.Needs.{needs}
 use Rattle.atlas.proofs.Bits.{whole-part}
 use Rattle.atlas.proofs.draw_bits.Statement.{statement}
@@ -58,15 +58,6 @@ same-length-3 c = search needs
 returns-3 : tie.Need-returns-3
 returns-3 c = search whole-part
 
-sub-draw-pixels-4 : tie.Need-sub-draw-pixels-4
-sub-draw-pixels-4 c = search needs
-
-part-draw-pixels-start-4 : tie.Need-part-draw-pixels-start-4
-part-draw-pixels-start-4 c = search needs
-
-part-draw-pixels-end-4 : tie.Need-part-draw-pixels-end-4
-part-draw-pixels-end-4 c = search needs
-
 draw-pixels-requires-4 : tie.Need-draw-pixels-requires-4
 draw-pixels-requires-4 c κs = search needs
 
@@ -74,16 +65,7 @@ same-length-4 : tie.Need-same-length-4
 same-length-4 c = search needs
 
 returns-4 : tie.Need-returns-4
-returns-4 c = search whole-part
-
-draw-pixels-requires-5 : tie.Need-draw-pixels-requires-5
-draw-pixels-requires-5 c κs = search needs
-
-same-length-5 : tie.Need-same-length-5
-same-length-5 c = search needs
-
-returns-5 : tie.Need-returns-5
-returns-5 c = search needs
+returns-4 c = search needs
 
 pub draw-bits-spec : {M : Type 1} → statement M
 draw-bits-spec =
@@ -107,12 +89,6 @@ draw-bits-spec =
     draw-pixels-requires-3
     same-length-3
     returns-3
-    sub-draw-pixels-4
-    part-draw-pixels-start-4
-    part-draw-pixels-end-4
     draw-pixels-requires-4
     same-length-4
-    returns-4
-    draw-pixels-requires-5
-    same-length-5
-    returns-5)
+    returns-4)

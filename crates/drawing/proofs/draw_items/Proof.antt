@@ -11,12 +11,12 @@ use Rattle.drawing.proofs.draw_items.Statement.{statement}
 use Rattle.drawing.proofs.draw_items.Tie as tie
 
 abbrev Inv-loop : tie.InvT-loop
-Inv-loop sheet frame₀ clip items n₀ frame n =
+Inv-loop sheet frame₀ clip whole items n₀ frame n =
     (rest sheet clip n frame ≡ paintIn (frameWidth sheet) clip (itemsLayer sheet (order sheet)) frame₀)
     × (length frame ≡ length frame₀)
 
 abbrev μ-loop : tie.MeasureT-loop
-μ-loop sheet frame₀ clip items n₀ frame n = items - n
+μ-loop sheet frame₀ clip whole items n₀ frame n = items - n
 
 item-count-requires : tie.Need-item-count-requires Inv-loop μ-loop
 item-count-requires c κs = search needs

@@ -4,14 +4,8 @@ use Rattle.drawing.proofs.Painting.{item-missed}
 use Rattle.drawing.proofs.draw_met_item.Statement.{statement}
 use Rattle.drawing.proofs.draw_met_item.Tie as tie
 
-item-ink-requires : tie.Need-item-ink-requires
-item-ink-requires c κs = search needs
-
-intersection-requires : tie.Need-intersection-requires
-intersection-requires c κs = search needs
-
-is-empty-requires : tie.Need-is-empty-requires
-is-empty-requires c κs = search needs
+is-missed-requires : tie.Need-is-missed-requires
+is-missed-requires c κs = search needs
 
 returns : tie.Need-returns
 returns c = search item-missed
@@ -26,13 +20,4 @@ returns-2 : tie.Need-returns-2
 returns-2 c = search needs
 
 pub draw-met-item-spec : {M : Type 1} → statement M
-draw-met-item-spec =
-    tie.close
-    (tie.spec
-    item-ink-requires
-    intersection-requires
-    is-empty-requires
-    returns
-    draw-item-in-requires
-    same-length
-    returns-2)
+draw-met-item-spec = tie.close (tie.spec is-missed-requires returns draw-item-in-requires same-length returns-2)

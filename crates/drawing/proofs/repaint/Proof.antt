@@ -23,6 +23,12 @@ paper-requires c κs = search needs
 fill-solid-requires : tie.Need-fill-solid-requires
 fill-solid-requires c κs = search canvas-read
 
+cast-whole : tie.Need-cast-whole
+cast-whole c = search needs
+
+cast-whole-2 : tie.Need-cast-whole-2
+cast-whole-2 c = search needs
+
 draw-items-requires : tie.Need-draw-items-requires
 draw-items-requires c κs = search needs
 
@@ -42,6 +48,8 @@ repaint-spec =
     cast-fh
     paper-requires
     fill-solid-requires
+    cast-whole
+    cast-whole-2
     draw-items-requires
     same-length
     returns)
