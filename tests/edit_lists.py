@@ -1,6 +1,6 @@
-"""Makes crates/edit_lists/stdin and stdout: a sheet, a list of edits, and what document 01 says of them.
+"""Makes crates/edit_lists/stdin and stdout: a sheet, a list of edits, and what docs/SHEET.md says of them.
 
-A plain model that follows document 01 and uses nothing of the crates: the page is drawn pixel by pixel, the sheet is kept as bytes, and each edit is
+A plain model that follows docs/SHEET.md and uses nothing of the crates: the page is drawn pixel by pixel, the sheet is kept as bytes, and each edit is
 refused or made on those bytes. Run it from the repository's root.
 """
 import os

@@ -1,6 +1,6 @@
 """Makes crates/stored_sheets/stdin and crates/stored_sheets/stdout again.
 
-The sheets and the check below follow document 01 and RFC 3629, and use nothing of the crates. Beside each sheet, or each group
+The sheets and the check below follow docs/SHEET.md and RFC 3629, and use nothing of the crates. Beside each sheet, or each group
 of sheets, stands the number of the refusal that is meant, or 0; the check must give the same. In a pair of faults it is the
 earlier one. Prints the number, the refusal and the name of each sheet.
 
@@ -23,7 +23,7 @@ def font(**changed):
 
 
 def sample(**changed):
-    """The sample font of document 01."""
+    """The sample font of docs/SHEET.md."""
     own = dict(atlas=b"\x90\x60", mapping=b"AB", replacement=1, atlas_width=4, cw=2, ch=2, s=1, baseline=1, strike=(0, 1), under=(3, 1))
     return font(**{**own, **changed})
 
@@ -94,7 +94,7 @@ def characters(data):
     return out
 
 
-# ---- document 01's check
+# ---- the check of docs/SHEET.md
 
 def number(b, at, size):
     return int.from_bytes(b[at:at + size], "little")
@@ -209,7 +209,7 @@ def span(start, end):
 def accepted():
     marked = bytes.fromhex("01000400 0200C800 00000000 18000000 18000000 18000000")
     assert marked == sheet()
-    store("document 01's page without fonts and items", 0, marked)
+    store("the page without fonts and items", 0, marked)
     store("paper 0, frame 1 by 1", 0, sheet(width=1, height=1, paper=0))
     store("the sample font alone", 0, sheet([sample()]))
     ab = item(text=b"AB", text_mode=1, text_grey=9, back_mode=1, back_grey=5)

@@ -1,4 +1,5 @@
--- An atlas's rows of bits and its glyphs' cells (document 01, Atlas). Assumes nothing.
+-- An atlas's rows of bits and its glyphs' cells (docs/SHEET.md, Atlas). Assumes nothing.
+-- To be believed: it says what a sheet means.
 use Prim.Native.Nat.{ℕ, _+_, _-_, _*_, _/_, _%_, _^_}
 use mathlib.Core.Bool.{Bool, cond, _&&_}
 use mathlib.Core.List.{List}

@@ -1,4 +1,5 @@
 -- A row of an atlas drawn eight pixels at a time, and what drawing part of an atlas requires. Assumes nothing.
+-- Serves contracts: nothing here has to be believed.
 use Prim.Native.Nat.{ℕ, _+_, _-_, _*_, _/_, _%_, _^_, _≤_, _<_}
 use mathlib.Core.Path.{_≡_}
 use mathlib.Core.Bool.{Bool, cond}

@@ -1,12 +1,16 @@
-use geometry::ORIGIN;
+// An atlas of glyphs: where each stands in it, and the drawing of one.
+use geometry::DrawTarget;
+use geometry::FrameArea;
 use geometry::OptionalGrey;
+use geometry::Point;
 use geometry::Rectangle;
 use geometry::Size;
+use numbers::wide;
 ghost use mathlib.Core.Path.{_≡_};
 ghost use Prim.Native.Nat.{_+_, _/_, _≤_, _<_};
 ghost use lib.ListN.{length};
-ghost use Rattle.geometry.specs.Layer.{origin, mapIndexed, within, paint, paintIn};
-ghost use Rattle.geometry.specs.Canvas.{Canvas, onFrame};
+ghost use Rattle.geometry.specs.Layer.{origin, mapIndexed, within, paint};
+ghost use Rattle.geometry.specs.Canvas.{Canvas, InFrame, onFrame, paintOn};
 ghost use Rattle.atlas.specs.Atlas.{image, glyph};
 ghost use Rattle.atlas.specs.Row.{CellsOf, glyphCorner, blend, imageRow, bitsAt, bitRow, SubImage};
 
@@ -20,6 +24,12 @@ pub struct Atlas {
 pub struct Cells {
     pub glyphs_per_row: u32,
     pub image_height: usize,
+}
+
+// The colours of a glyph: that of the atlas's on pixels and that of its off pixels.
+pub struct GlyphColors {
+    pub text: OptionalGrey,
+    pub background: OptionalGrey,
 }
 
 // Where a glyph's cell stands in its atlas.
@@ -80,12 +90,6 @@ fn glyph_corner(n: usize, atlas: Atlas, cells: Cells, index: u32) -> Corner
     Corner::At(column as usize, row)
 }
 
-fn wide(byte: u8) -> u32
-    ensures { λ r. ⌜ (r ≡ byte) × (r < 256) ⌝ }
-{
-    byte as u32
-}
-
 // The pixels from x on of the atlas's row y, as bits 7 to 0 of a number.
 fn bits_at(bytes: &[u8], stride: usize, x: usize, y: usize) -> u32
     requires { ⌜ SubImage stride x y 1 1 (length (now bytes)) ⌝ }
@@ -132,7 +136,7 @@ fn draw_pixels(row: &mut [u8], bits: u32, text: OptionalGrey, background: Option
     }
 }
 
-// The same; four to six pixels are drawn without a loop.
+// The same. For four to six pixels the number is a constant, over which the compiler writes the loop out.
 fn draw_bits(row: &mut [u8], bits: u32, text: OptionalGrey, background: OptionalGrey)
     requires { ⌜ length (now row) ≤ 8 ⌝ }
     ensures { λ _. ⌜ now (row .exit) ≡ mapIndexed (bitRow bits text background) 0 (now (row .entry)) ⌝ }
@@ -180,63 +184,54 @@ fn draw_row(
     }
 }
 
-// Draws the atlas from its pixel (x, y) on in a rectangle of the frame, whose columns and rows are counted from the frame's
-// corner.
+// Draws the atlas from its pixel (x, y) on in a rectangle of a frame fw wide.
 fn draw_sub_image(
     frame: &mut [u8],
     fw: usize,
-    fh: usize,
-    left: usize,
-    top: usize,
-    width: usize,
-    height: usize,
+    area: FrameArea,
     bytes: &[u8],
     stride: usize,
     x: usize,
     y: usize,
-    text: OptionalGrey,
-    background: OptionalGrey,
+    colors: GlyphColors,
 )
-    requires { ⌜ Canvas fw fh (length (now frame)) (onFrame left top width height) ⌝ }
-    requires { ⌜ SubImage stride x y width height (length (now bytes)) ⌝ }
-    ensures { λ _. ⌜ now (frame .exit) ≡ paint fw (within (onFrame left top width height) (image (now (bytes .entry)) stride x y (origin + left) (origin + top) text background)) (now (frame .entry)) ⌝ }
+    requires { ⌜ InFrame fw (length (now frame)) area ⌝ }
+    requires { ⌜ SubImage stride x y (area .width) (area .height) (length (now bytes)) ⌝ }
+    ensures { λ _. ⌜ now (frame .exit) ≡ paint fw (within (onFrame area) (image (now (bytes .entry)) stride x y (origin + area .left) (origin + area .top) (colors .text) (colors .background))) (now (frame .entry)) ⌝ }
 {
+    let text = colors.text;
+    let background = colors.background;
     let mut k: usize = 0;
-    while k < height {
-        let a = (top + k) * fw + left;
-        let b = a + width;
+    while k < area.height {
+        let a = (area.top + k) * fw + area.left;
+        let b = a + area.width;
         draw_row(&mut frame[a..b], bytes, stride, x, y + k, text, background);
         k += 1;
     }
 }
 
-// Draws the glyph with an index, its cell's corner at (left, top), where the clip shows it.
+// Draws the glyph with an index, its cell's corner at `corner`, where the target shows it.
 pub fn draw_glyph(
     frame: &mut [u8],
-    fw: usize,
-    fh: usize,
-    clip: Rectangle,
+    target: DrawTarget,
     bytes: &[u8],
     atlas: Atlas,
     cells: Cells,
-    text: OptionalGrey,
-    background: OptionalGrey,
+    colors: GlyphColors,
     index: u32,
-    left: u32,
-    top: u32,
+    corner: Point,
 )
-    requires { ⌜ Canvas fw fh (length (now frame)) clip ⌝ }
+    requires { ⌜ Canvas target (length (now frame)) ⌝ }
     requires { ⌜ CellsOf atlas (length (now bytes)) cells ⌝ }
-    ensures { λ _. ⌜ now (frame .exit) ≡ paintIn fw clip (glyph (now (bytes .entry)) atlas text background index left top) (now (frame .entry)) ⌝ }
+    ensures { λ _. ⌜ now (frame .exit) ≡ paintOn target (glyph (now (bytes .entry)) atlas (colors .text) (colors .background) index (corner .x) (corner .y)) (now (frame .entry)) ⌝ }
 {
-    let cell = atlas.cell_size;
-    let area = Rectangle {
-        left,
-        top,
-        width: cell.width,
-        height: cell.height,
+    let cell = Rectangle {
+        left: corner.x,
+        top: corner.y,
+        width: atlas.cell_size.width,
+        height: atlas.cell_size.height,
     };
-    let shown = clip.intersection(area);
+    let shown = target.clip_area.intersection(cell);
     if shown.is_empty() {
         return;
     }
@@ -244,25 +239,8 @@ pub fn draw_glyph(
         return;
     };
     let stride = (atlas.width as usize + 7) / 8;
-    let x = column + (shown.left - left) as usize;
-    let y = row + (shown.top - top) as usize;
-    let l = (shown.left - ORIGIN) as usize;
-    let t = (shown.top - ORIGIN) as usize;
-    let w = shown.width as usize;
-    let h = shown.height as usize;
-    draw_sub_image(
-        frame,
-        fw,
-        fh,
-        l,
-        t,
-        w,
-        h,
-        bytes,
-        stride,
-        x,
-        y,
-        text,
-        background,
-    );
+    let x = column + (shown.left - corner.x) as usize;
+    let y = row + (shown.top - corner.y) as usize;
+    let area = shown.on_frame();
+    draw_sub_image(frame, target.width, area, bytes, stride, x, y, colors);
 }

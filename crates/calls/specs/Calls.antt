@@ -1,5 +1,6 @@
 -- The outcome of every exported call, for all inputs: its code, its reply and what it leaves of sheet, frame and output
--- (document 01, Replies to the host). Assumes nothing.
+-- (docs/SHEET.md, Replies and refusals). Assumes nothing.
+-- To be believed: it says what a sheet means.
 use Prim.Native.Nat.{ℕ, _+_}
 use mathlib.Core.Bool.{Bool, true, false}
 use mathlib.Core.List.{List, _++_}
@@ -19,7 +20,7 @@ use Rattle.text.specs.Text.{next, boundingBox}
 use Rattle.page.specs.Page.{pageHeader}
 use Rattle.sheet.specs.Fields.{frameWidth, frameHeight, fontCount, itemCount}
 use Rattle.sheet.specs.Check.{check}
-use Rattle.sheet.specs.Records.{font, item, itemFont}
+use Rattle.records.specs.Records.{font, item, itemFont}
 use Rattle.sheet.specs.Edits.{Edit, itemNumber, refusal, edited}
 use Rattle.drawing.specs.Drawing.{itemLayer, freshDrawing, pixelCount, whitespaceLayer, whitespaceNext, damage, repainted}
 use Rattle.calls.specs.declared.Number.{Number}

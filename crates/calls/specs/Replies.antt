@@ -1,4 +1,5 @@
 -- What the functions that make replies cite: a refused call's reply, and what a good one's requires. Assumes nothing.
+-- Serves contracts: nothing here has to be believed.
 use Prim.Native.Nat.{ℕ, _^_, _<_}
 use lib.IntN.{pos}
 use Rattle.geometry.specs.declared.Point.{Point}

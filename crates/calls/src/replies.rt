@@ -2,6 +2,7 @@
 use super::Box;
 use super::Number;
 use super::Position;
+use geometry::ORIGIN;
 use geometry::Point;
 use geometry::Rectangle;
 ghost use mathlib.Core.Path.{_≡_};
@@ -41,7 +42,7 @@ fn signed(x: u32) -> i32
     requires { ⌜ x < 2 ^ 31 ⌝ }
     ensures { λ r. ⌜ r ≡ signed x ⌝ }
 {
-    x as i32 - 2097152
+    x as i32 - ORIGIN as i32
 }
 
 // The reply of a good call that gives a position.

@@ -1,3 +1,4 @@
+pub mod Ascii
 pub mod Folds
 pub mod LeadingOnes
 pub mod Parts

@@ -1,7 +1,7 @@
 -- A text with a byte below 80 in it is the text before, that character and the text after: such a byte continues no sequence, so none
 -- goes across it. Assumes nothing.
 use mathlib.Core.Path.{_≡_, refl, sym, _∙_, ap}
-use mathlib.Core.Bool.{Bool, true, false, cond, _&&_, and-eq-true-iff, false≢true}
+use mathlib.Core.Bool.{Bool, true, false, cond, _&&_, and-eq-true-iff, false≢true, and-false}
 use mathlib.Core.List.{List, [], _∷_, _++_, append-assoc}
 use Prim.Native.Nat.{ℕ, zero, suc, _+_, _-_, _<_, _≤_}
 use native.Mathlib.Nat.{add-assoc}
@@ -21,10 +21,6 @@ use Rattle.characters.proofs.Folds.{fold-fuel, fold-character, fold-ill
 cond-same : {A : Type 0} (t : Bool) (x x′ y y′ : A) → (t ≡ true → x ≡ x′) → (t ≡ false → y ≡ y′) → cond t x y ≡ cond t x′ y′
 cond-same true x x′ y y′ f g = f refl
 cond-same false x x′ y y′ f g = g refl
-
-and-false : (t : Bool) → (t && false) ≡ false
-and-false true = refl
-and-false false = refl
 
 -- ---- before the byte
 

@@ -1,17 +1,15 @@
 -- `walk` and `count`: a law for each fact that a turn of their loops needs, where x is what `next` gave. Assumes nothing.
-use mathlib.Core.Path.{_≡_, refl, sym, _∙_, ap}
+use mathlib.Core.Path.{_≡_, sym, _∙_, ap}
 use mathlib.Core.Bool.{Bool}
 use mathlib.Core.List.{List}
 use Prim.Native.Nat.{ℕ, _+_, _-_, _<_, _≤_}
 use native.Mathlib.Omega.{arith}
-use lib.ListN.{length, getD}
-use borrow.Author.Tests.{lt-ltb}
+use lib.ListN.{length}
 use Rattle.characters.specs.declared.Cursor.{Cursor}
 use Rattle.characters.specs.declared.Step.{Step}
 use Rattle.characters.specs.declared.Step.the-variants.{Character}
 use Rattle.characters.specs.Refusal.{need}
-use Rattle.characters.specs.Utf8.{leadingOnes, sequence, stepAt, charsFrom, wellFormedFrom}
-use Rattle.characters.specs.Ascii.{AsciiHead}
+use Rattle.characters.specs.Utf8.{stepAt, charsFrom, wellFormedFrom}
 use Rattle.characters.proofs.Steps.{step-advances}
 use Rattle.characters.proofs.Folds.{Stopped, chars-character, chars-stopped, well-formed-character, well-formed-stopped, well-formed-past}
 
@@ -40,15 +38,3 @@ module _ (s : List ℕ) (at : ℕ) {x : Step} (e : x ≡ stepAt s at) where
 
 pub walk-past : (s : List ℕ) (at : ℕ) → length s ≤ at → (w : Bool) (refusal : ℕ) → wellFormedFrom s at ≡ w → 0 ≡ need w refusal 0
 walk-past s at h w refusal i = rw (sym i ∙ well-formed-past s at h)
-
--- ---- the leading bytes below 80
-
-pub head-none : (s : List ℕ) → AsciiHead s 0
-head-none s = record { within = omega arith; counted = omega arith; judged = refl }
-
-pub head-more : (s : List ℕ) (at : ℕ) → AsciiHead s at → at < length s → getD s at 0 < 0x80 → AsciiHead s (at + 1)
-unfolding stepAt sequence leadingOnes
-head-more s at g h l = record { within = omega arith; counted = count-again s at refl step at _ (g .counted); judged = walk-again s at refl step _ (g .judged) }
-  where
-    step : stepAt s at ≡ Character (getD s at 0) (record { at = at + 1 })
-    step = rw (lt-ltb at (length s) h, lt-ltb (getD s at 0) 0x80 l)

@@ -1,3 +1,4 @@
 pub mod Refusal
 pub mod Utf8
 pub mod Ascii
+pub mod Walker

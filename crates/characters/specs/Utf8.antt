@@ -1,5 +1,6 @@
 -- UTF-8 by RFC 3629: what stands at a position of a list of bytes, the characters of a text, and whether it is well-formed.
 -- Assumes nothing.
+-- To be believed: it says what a sheet means.
 use Prim.Native.Nat.{ℕ, zero, suc, _+_, _-_, _*_, _%_}
 use mathlib.Core.List.{List, [], _∷_}
 use mathlib.Core.Bool.{Bool, true, false, not, cond, _&&_}

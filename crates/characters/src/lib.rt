@@ -1,8 +1,9 @@
+use numbers::wide;
 ghost use mathlib.Core.Path.{_≡_};
 ghost use lib.ListN.{length};
 ghost use Rattle.characters.specs.Refusal.{need};
 ghost use Rattle.characters.specs.Utf8.{leadingOnes, isContinuation, isSurrogate, scalar, two, three, four, stepAt, chars, wellFormed};
-ghost use Rattle.characters.specs.Ascii.{AsciiHead};
+ghost use Rattle.characters.specs.Ascii.{asciiLength};
 
 pub mod walker;
 
@@ -16,13 +17,6 @@ pub enum Step {
     Character(u32, Cursor),
     IllFormed,
     End,
-}
-
-// The byte as a number of 32 bits.
-fn wide(b: u8) -> u32
-    ensures { λ r. ⌜ r ≡ b ⌝ }
-{
-    b as u32
 }
 
 // The ones at the head of a lead byte: the length of its sequence, or 0 for a byte that stands alone.
@@ -125,7 +119,7 @@ pub fn next(s: &[u8], c: Cursor) -> Step
 
 // How many bytes below 80 lead the text: each is a character.
 fn ascii_length(s: &[u8]) -> usize
-    ensures { λ r. ⌜ AsciiHead (now (s .entry)) r ⌝ }
+    ensures { λ r. ⌜ r ≡ asciiLength (now (s .entry)) ⌝ }
 {
     let mut at = 0;
     while at < s.len() {

@@ -3,6 +3,7 @@ use super::Cursor;
 use super::Step;
 ghost use mathlib.Core.Path.{_≡_};
 ghost use Rattle.characters.specs.Utf8.{stepAt};
+ghost use Rattle.characters.specs.Walker.{movedTo};
 
 // The line's bytes and the offset of the next character.
 pub struct Walker<'a> {
@@ -22,6 +23,16 @@ pub fn next<'a>(w: Walker<'a>) -> Step
     ensures { λ r. ⌜ r ≡ stepAt (now (w .entry .line)) (w .entry .at) ⌝ }
 {
     super::next(w.line, Cursor { at: w.at })
+}
+
+// The walker moved on: the same line, at a cursor.
+pub fn moved<'a>(w: Walker<'a>, c: Cursor) -> Walker<'a>
+    ensures { λ r. ⌜ r ≡ movedTo (w .entry) c ⌝ }
+{
+    Walker {
+        line: w.line,
+        at: c.at,
+    }
 }
 
 // One step of a walker over a line, for a caller that keeps the line and the offset.

@@ -15,18 +15,17 @@ use Rattle.geometry.specs.Rectangle.{rectangle, isEmpty, join, intersection}
 use Rattle.geometry.specs.Layer.{origin, frameOf}
 use Rattle.line.specs.declared.MonoTextStyle.{MonoTextStyle}
 use Rattle.text.specs.Text.{textOf, inkBox}
-use Rattle.text.specs.Lines.{either}
 use Rattle.text.specs.Limits.{TextLimits}
 use Rattle.sheet.specs.Fields.{frameWidth, frameHeight, itemAt, textBytes}
 use Rattle.sheet.specs.Requires.{ItemListed, EditAllowed}
-use Rattle.sheet.specs.Records.{styleOf, itemOf, item}
+use Rattle.records.specs.Records.{styleOf, itemOf, item}
 use Rattle.sheet.specs.Edits.{Edit, newText, newPlace, newStyle, itemNumber, inRange, biased, edited}
 use Rattle.sheet.proofs.Allowed.{listed, text-allowed, place-allowed, style-allowed}
 use Rattle.edits.proofs.Signed.{read}
 use Rattle.drawing.specs.declared.items.Item.{Item}
 use Rattle.drawing.specs.Drawing.{orNone, cutToFrame, itemInk, damage}
 use Rattle.drawing.specs.Items.{ItemRead}
-use Rattle.drawing.specs.Changes.{changedInk, ChangeLimits}
+use Rattle.drawing.specs.Changes.{changedInk}
 use Rattle.drawing.proofs.EditedInk.{ink-after-text, ink-after-place, ink-after-style}
 
 biased-near : (z : ℤ) → inRange z ≡ true → biased z ≤ 4_194_304
@@ -47,27 +46,50 @@ module _ (b : List ℕ) (before after both frame area : Rectangle) (e : both ≡
   pub cut-some : t ≡ false → area ≡ cutToFrame b (join before after)
   cut-some h = sym (rw h) ∙ cut-is
 
--- ---- `change_damage`
+-- ---- what is read of an item
 
-module _ (b : List ℕ) (n : ℕ) (i : Item) (stored new : List ℕ) (fromNew : Bool) (x y : ℕ) (style : MonoTextStyle) (r : ItemRead b n i) (w : stored ≡ textBytes b (itemAt b n)) where
+module _ (b : List ℕ) (n : ℕ) (i : Item) (stored : List ℕ) (r : ItemRead b n i) (w : stored ≡ textBytes b (itemAt b n)) where
   stored-is : stored ≡ item b n .text
   unfolding item itemOf
   stored-is = w
 
-  pub before-limits : TextLimits (length (either stored new false)) (i .position .x) (i .position .y) (i .«text_style» .«line_height»)
-  before-limits = rw stored-is (r .text-limits)
+  stored-ink : itemInk b n ≡ inkBox (i .font) (textOf stored (i .position .x) (i .position .y) (i .«character_style») (i .«text_style»))
+  unfolding itemInk
+  stored-ink = rw (stored-is, r .font, r .position, r .character-style, r .text-style)
 
-  pub after-limits : ChangeLimits b n new fromNew x y → TextLimits (length (either stored new fromNew)) x y (i .«text_style» .«line_height»)
-  after-limits l = record { text-short = rw stored-is (l .text-short); near-x = l .near-x; near-y = l .near-y; height-small = r .text-limits .height-small }
+  -- ---- `change_damage`
 
-  pub change-cut : (before after area : Rectangle) → before ≡ inkBox (i .font) (textOf (either stored new false) (i .position .x) (i .position .y) (i .«character_style») (i .«text_style»))
-      → after ≡ inkBox (i .font) (textOf (either stored new fromNew) x y style (i .«text_style»)) → area ≡ cutToFrame b (join before after)
-      → area ≡ cutToFrame b (join (itemInk b n) (changedInk b n new fromNew style x y))
-  unfolding itemInk changedInk
-  change-cut before after area p q e =
-      let was : before ≡ itemInk b n = rw (stored-is, r .font, r .position, r .character-style, r .text-style) at p in
-      let is : after ≡ changedInk b n new fromNew style x y = rw (stored-is, r .font, r .text-style) at q in
-      rw (was, is) at e
+  module _ (x y : ℕ) where
+    pub after-limits : x ≤ 4_194_304 → y ≤ 4_194_304 → TextLimits (length stored) x y (i .«text_style» .«line_height»)
+    after-limits p q = record { text-short = rw stored-is (r .text-limits .text-short); near-x = p; near-y = q; height-small = r .text-limits .height-small }
+
+    pub change-cut : (style : MonoTextStyle) (before after area : Rectangle) → before ≡ itemInk b n → after ≡ inkBox (i .font) (textOf stored x y style (i .«text_style»)) → area ≡ cutToFrame b (join before after)
+        → area ≡ cutToFrame b (join (itemInk b n) (changedInk b n style x y))
+    unfolding changedInk
+    change-cut style before after area p q e =
+        let is : after ≡ changedInk b n style x y = rw (stored-is, r .font, r .text-style) at q in
+        rw (p, is) at e
+
+  -- ---- `text_damage`
+
+  module _ (t : List ℕ) (g : EditAllowed b (newText n t)) where
+    pub stored-limits : TextLimits (length stored) (i .position .x) (i .position .y) (i .«text_style» .«line_height»)
+    stored-limits = rw stored-is (r .text-limits)
+
+    pub new-limits : TextLimits (length t) (i .position .x) (i .position .y) (i .«text_style» .«line_height»)
+    new-limits =
+        let a = text-allowed b n t (g .allowed) in
+        let f = g .accepted .item-fits n (a .listed) in
+        record { text-short = omega arith; near-x = r .text-limits .near-x; near-y = r .text-limits .near-y; height-small = r .text-limits .height-small }
+
+    pub text-damage : (before after area : Rectangle) → before ≡ inkBox (i .font) (textOf stored (i .position .x) (i .position .y) (i .«character_style») (i .«text_style»))
+        → after ≡ inkBox (i .font) (textOf t (i .position .x) (i .position .y) (i .«character_style») (i .«text_style»)) → area ≡ cutToFrame b (join before after)
+        → area ≡ damage b (edited b (newText n t)) n
+    unfolding damage
+    text-damage before after area p q e =
+        let was : before ≡ itemInk b n = p ∙ sym stored-ink in
+        let is : after ≡ itemInk (edited b (newText n t)) n = q ∙ rw (r .font, r .position, r .character-style, r .text-style) (sym (ink-after-text b n (g .accepted) t (g .allowed))) in
+        rw (was, is) at e
 
 -- ---- the edits
 
@@ -76,44 +98,28 @@ edit-listed b e g = record { accepted = g .accepted; listed = listed b e (g .all
 
 module _ (b : List ℕ) (n : ℕ) (i : Item) (r : ItemRead b n i) (area : Rectangle) where
   -- the ink box of the change is that of the edited item
-  by-change : (b′ new : List ℕ) (fromNew : Bool) (style : MonoTextStyle) (x y : ℕ) → changedInk b n new fromNew style x y ≡ itemInk b′ n
-      → area ≡ cutToFrame b (join (itemInk b n) (changedInk b n new fromNew style x y)) → area ≡ damage b b′ n
+  by-change : (b′ : List ℕ) (style : MonoTextStyle) (x y : ℕ) → changedInk b n style x y ≡ itemInk b′ n
+      → area ≡ cutToFrame b (join (itemInk b n) (changedInk b n style x y)) → area ≡ damage b b′ n
   unfolding damage
-  by-change b′ new fromNew style x y c e = e ∙ ap (λ (z : Rectangle). cutToFrame b (join (itemInk b n) z)) c
+  by-change b′ style x y c e = e ∙ ap (λ (z : Rectangle). cutToFrame b (join (itemInk b n) z)) c
 
-  pub text-damage : (t : List ℕ) → EditAllowed b (newText n t) → area ≡ cutToFrame b (join (itemInk b n) (changedInk b n t true (i .«character_style») (i .position .x) (i .position .y)))
-      → area ≡ damage b (edited b (newText n t)) n
+  pub place-damage : (x y : ℤ) (left top : ℕ) → EditAllowed b (newPlace n x y) → SFits w32 x → SFits w32 y → left ≡ biased (read x) → top ≡ biased (read y)
+      → area ≡ cutToFrame b (join (itemInk b n) (changedInk b n (i .«character_style») left top)) → area ≡ damage b (edited b (newPlace n x y)) n
   unfolding changedInk
-  text-damage t g e = by-change _ t true _ _ _ (rw (r .character-style, r .position) (sym (ink-after-text b n (g .accepted) t (g .allowed)))) e
+  place-damage x y left top g fx fy ex ey e = by-change _ _ left top (rw (r .character-style, ex, ey, toZ-ofZ {z = x} fx, toZ-ofZ {z = y} fy) (sym (ink-after-place b n (g .accepted) x y (g .allowed)))) e
 
-  pub place-damage : (x y : ℤ) (new : List ℕ) (left top : ℕ) → EditAllowed b (newPlace n x y) → SFits w32 x → SFits w32 y → left ≡ biased (read x) → top ≡ biased (read y)
-      → area ≡ cutToFrame b (join (itemInk b n) (changedInk b n new false (i .«character_style») left top)) → area ≡ damage b (edited b (newPlace n x y)) n
+  pub style-damage : (t : List ℕ) (style : MonoTextStyle) → EditAllowed b (newStyle n t) → style ≡ styleOf t
+      → area ≡ cutToFrame b (join (itemInk b n) (changedInk b n style (i .position .x) (i .position .y))) → area ≡ damage b (edited b (newStyle n t)) n
   unfolding changedInk
-  place-damage x y new left top g fx fy ex ey e = by-change _ new false _ left top (rw (r .character-style, ex, ey, toZ-ofZ {z = x} fx, toZ-ofZ {z = y} fy) (sym (ink-after-place b n (g .accepted) x y (g .allowed)))) e
+  style-damage t style g es e = by-change _ _ _ _ (rw (es, r .position) (sym (ink-after-style b n (g .accepted) t (g .allowed)))) e
 
-  pub style-damage : (t new : List ℕ) (style : MonoTextStyle) → EditAllowed b (newStyle n t) → style ≡ styleOf t
-      → area ≡ cutToFrame b (join (itemInk b n) (changedInk b n new false style (i .position .x) (i .position .y))) → area ≡ damage b (edited b (newStyle n t)) n
-  unfolding changedInk
-  style-damage t new style g es e = by-change _ new false _ _ _ (rw (es, r .position) (sym (ink-after-style b n (g .accepted) t (g .allowed)))) e
+-- a new place is within the limits of drawing
+module _ (b : List ℕ) (n : ℕ) (x y : ℤ) (g : EditAllowed b (newPlace n x y)) (r : ℕ) where
+  pub x-near : SFits w32 x → r ≡ biased (read x) → r ≤ 4_194_304
+  x-near f e = rw (e, toZ-ofZ {z = x} f) (biased-near x (place-allowed b n x y (g .allowed) .x-in))
 
-  -- what the changes keep to
-  pub text-change : (t : List ℕ) → EditAllowed b (newText n t) → ChangeLimits b n t true (i .position .x) (i .position .y)
-  text-change t g =
-      let a = text-allowed b n t (g .allowed) in
-      let f = g .accepted .item-fits n (a .listed) in
-      record { text-short = omega arith; near-x = r .text-limits .near-x; near-y = r .text-limits .near-y }
-
-  pub kept-change : (new : List ℕ) (x y : ℕ) → x ≤ 4_194_304 → y ≤ 4_194_304 → ChangeLimits b n new false x y
-  kept-change new x y p q = record { text-short = r .text-limits .text-short; near-x = p; near-y = q }
-
-  pub style-change : (new : List ℕ) → ChangeLimits b n new false (i .position .x) (i .position .y)
-  style-change new = kept-change new (i .position .x) (i .position .y) (r .text-limits .near-x) (r .text-limits .near-y)
-
-  pub place-change : (x y : ℤ) (new : List ℕ) (left top : ℕ) → EditAllowed b (newPlace n x y) → SFits w32 x → SFits w32 y → left ≡ biased (read x) → top ≡ biased (read y)
-      → ChangeLimits b n new false left top
-  place-change x y new left top g fx fy ex ey =
-      let a = place-allowed b n x y (g .allowed) in
-      kept-change new left top (rw (ex, toZ-ofZ {z = x} fx) (biased-near x (a .x-in))) (rw (ey, toZ-ofZ {z = y} fy) (biased-near y (a .y-in)))
+  pub y-near : SFits w32 y → r ≡ biased (read y) → r ≤ 4_194_304
+  y-near f e = rw (e, toZ-ofZ {z = y} f) (biased-near y (place-allowed b n x y (g .allowed) .y-in))
 
 pub style-eight : (b : List ℕ) (n : ℕ) (t : List ℕ) → EditAllowed b (newStyle n t) → length t ≡ 8
 style-eight b n t g = style-allowed b n t (g .allowed) .eight

@@ -5,11 +5,11 @@ use mathlib.Core.List.{List}
 use lib.IntN.{ℤ}
 use Rattle.text.specs.Text.{textOf, inkBox}
 use Rattle.sheet.specs.Accepted.{Accepted}
-use Rattle.sheet.specs.Records.{styleOf, item, itemFont}
+use Rattle.records.specs.Records.{styleOf, item, itemFont}
 use Rattle.sheet.specs.Edits.{newText, newPlace, newStyle, refusal, biased, edited}
 use Rattle.sheet.proofs.Allowed.{listed}
-use Rattle.sheet.proofs.Unchanged.{same-itemFont}
-use Rattle.sheet.proofs.EditedItem.{text-edited, place-edited, style-edited}
+use Rattle.records.proofs.Unchanged.{same-itemFont}
+use Rattle.records.proofs.EditedItem.{text-edited, place-edited, style-edited}
 use Rattle.drawing.specs.Drawing.{itemInk}
 
 module _ (b : List ℕ) (n : ℕ) (g : Accepted b) where

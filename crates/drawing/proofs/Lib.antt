@@ -1,4 +1,5 @@
 pub mod Exact
+pub mod EditedExact
 pub mod DamageHolds
 pub mod Repainting
 pub mod Painting

@@ -9,10 +9,11 @@ use mathlib.Core.List.{List, []}
 use mathlib.Core.Logic.{⊎-elim}
 use lib.ListN.{length, getD}
 use Rattle.geometry.specs.declared.Rectangle.{Rectangle}
+use Rattle.geometry.specs.declared.DrawTarget.{DrawTarget}
 use Rattle.geometry.specs.declared.OptionalGrey.the-variants.{Set}
 use Rattle.geometry.specs.Rectangle.{rectangle, isEmpty, join, intersection}
 use Rattle.geometry.specs.Layer.{origin, Layer, over, within, filled, paint, paintIn, frameOf}
-use Rattle.geometry.specs.Canvas.{Canvas}
+use Rattle.geometry.specs.Canvas.{Canvas, paintOn}
 use Rattle.geometry.proofs.Rectangles.{in-or-out, in-not-empty, intersection-in}
 use Rattle.geometry.proofs.Clips.{shown-in-area, shown-ends}
 use Rattle.geometry.proofs.Layers.{within-in, within-out, within-none, paint-agree, paint-none, paint-same}
@@ -20,14 +21,14 @@ use Rattle.line.proofs.Painting.{paint-then, paint-disjoint}
 use Rattle.text.proofs.Ink.{layer-out}
 use Rattle.sheet.specs.Fields.{frameWidth, frameHeight, paper, itemCount}
 use Rattle.sheet.specs.Accepted.{Accepted}
-use Rattle.sheet.specs.Records.{item, itemFont}
+use Rattle.records.specs.Records.{item, itemFont}
 use Rattle.drawing.specs.Drawing.{numbersFrom, order, itemLayer, itemsLayer, pageLayer, freshDrawing, pixelCount, orNone, cutToFrame, itemInk, damage, repainted}
-use Rattle.drawing.specs.Frames.{Framed}
+use Rattle.drawing.specs.Frames.{targetOf, Framed}
 
 -- ---- the whole frame as a clip
 
 module _ (b : List ℕ) (g : Accepted b) (frame : List ℕ) (n : length frame ≡ pixelCount b) where
-  pub whole-canvas : Canvas (frameWidth b) (frameHeight b) (length frame) (frameOf (frameWidth b) (frameHeight b))
+  pub whole-canvas : Canvas (targetOf b (frameOf (frameWidth b) (frameHeight b))) (length frame)
   whole-canvas =
       let h = g .laid-out .headed in
       record { size = mul-comm (frameHeight b) (frameWidth b) ∙ sym n; width = h .not-wide; height = h .not-high; left = omega arith; right = omega arith; top = omega arith; foot = omega arith }
@@ -41,7 +42,7 @@ module _ (b : List ℕ) (g : Accepted b) (frame : List ℕ) (n : length frame �
       within-in (frameOf (frameWidth b) (frameHeight b)) f (origin + k % frameWidth b) (origin + k / frameWidth b) (getD frame k 0) (omega arith))
 
 module _ (b frame : List ℕ) where
-  pub framed-canvas : (clip : Rectangle) → Framed b frame → clip ≡ frameOf (frameWidth b) (frameHeight b) → Canvas (frameWidth b) (frameHeight b) (length frame) clip
+  pub framed-canvas : (clip : Rectangle) → Framed b frame → clip ≡ frameOf (frameWidth b) (frameHeight b) → Canvas (targetOf b clip) (length frame)
   framed-canvas clip g e = rw e (whole-canvas b (g .accepted) frame (g .sized))
 
   pub painted-whole : (ys : List ℕ) (clip : Rectangle) (f : Layer) → Framed b frame → clip ≡ frameOf (frameWidth b) (frameHeight b) → ys ≡ paintIn (frameWidth b) clip f frame → ys ≡ paint (frameWidth b) f frame
@@ -76,7 +77,7 @@ module _ (b : List ℕ) (area : Rectangle) where
   rest-more n items frame next whole c h p e =
       let left = itemCount b - (n + 1) in
       let s : itemCount b - n ≡ suc left = omega arith in
-      paint-then (frameWidth b) area (itemLayer b n) (itemsLayer b (numbersFrom (n + 1) left)) frame next _ p refl
+      paint-then (targetOf b area) (itemLayer b n) (itemsLayer b (numbersFrom (n + 1) left)) frame next _ p refl
       ∙ ap (λ (j : ℕ). paintIn (frameWidth b) area (over (itemsLayer b (numbersFrom j left)) (itemLayer b n)) frame) (add-one n)
       ∙ sym (ap (λ (k : ℕ). paintIn (frameWidth b) area (itemsLayer b (numbersFrom n k)) frame) s)
       ∙ e
@@ -84,7 +85,7 @@ module _ (b : List ℕ) (area : Rectangle) where
   -- an item whose ink box shares no pixel with the area changes nothing there
   pub item-missed : (n : ℕ) (frame : List ℕ) (t : Bool) → (t ≡ true → isEmpty (intersection (itemInk b n) area) ≡ true) → t ≡ true → frame ≡ paintIn (frameWidth b) area (itemLayer b n) frame
   unfolding itemLayer itemInk
-  item-missed n frame t h q = paint-disjoint (frameWidth b) area (itemInk b n) (itemLayer b n) frame
+  item-missed n frame t h q = paint-disjoint (targetOf b area) (itemInk b n) (itemLayer b n) frame
       (λ c r grey o. layer-out (itemFont b n) (item b n) c r grey o)
       (λ c r i j.
       let k = in-not-empty (intersection (itemInk b n) area) c r (intersection-in c r (itemInk b n) area j i) in
@@ -95,11 +96,11 @@ module _ (b : List ℕ) (area : Rectangle) where
   missed n ink met t ei em et q = rw (← ei, ← em, ← et) q
 
   -- paper, then the items: the page in the area
-  pub page-painted : (fw grey : ℕ) (xs ys zs : List ℕ) → fw ≡ frameWidth b → grey ≡ paper b
-      → ys ≡ paintIn fw area (filled area (Set grey)) xs → zs ≡ paintIn (frameWidth b) area (itemsLayer b (order b)) ys → zs ≡ repainted b area xs
+  pub page-painted : (t : DrawTarget) (grey : ℕ) (xs ys zs : List ℕ) → t ≡ targetOf b area → grey ≡ paper b
+      → ys ≡ paintOn t (filled area (Set grey)) xs → zs ≡ paintIn (frameWidth b) area (itemsLayer b (order b)) ys → zs ≡ repainted b area xs
   unfolding repainted pageLayer filled
-  page-painted fw grey xs ys zs w g p q =
-      paint-then (frameWidth b) area _ (itemsLayer b (order b)) xs ys zs (rw (w, g) at p) q
+  page-painted t grey xs ys zs w g p q =
+      paint-then (targetOf b area) _ (itemsLayer b (order b)) xs ys zs (rw (w, g) at p) q
       ∙ paint-same (frameWidth b) _ (within area (pageLayer b)) xs (λ c r grey. ⊎-elim
       (λ i. within-in area (over (itemsLayer b (order b)) (filled area (Set (paper b)))) c r grey i ∙ ap (itemsLayer b (order b) c r) (within-in area (λ c r grey. paper b) c r grey i) ∙ sym (within-in area (pageLayer b) c r grey i))
       (λ o. within-out area (over (itemsLayer b (order b)) (filled area (Set (paper b)))) c r grey o ∙ sym (within-out area (pageLayer b) c r grey o))
@@ -107,18 +108,18 @@ module _ (b : List ℕ) (area : Rectangle) where
 
 -- ---- the damage rectangle lies in the frame
 
-or-none-canvas : (fw fh n : ℕ) (a : Rectangle) → fh * fw ≡ n → fw ≤ 512 → fh ≤ 512 → Canvas fw fh n (orNone (intersection a (frameOf fw fh)))
+or-none-canvas : (fw fh n : ℕ) (a : Rectangle) → fh * fw ≡ n → fw ≤ 512 → fh ≤ 512 → Canvas (record { width = fw; height = fh; «clip_area» = orNone (intersection a (frameOf fw fh)) }) n
 unfolding orNone
 or-none-canvas fw fh n a s w h = go (isEmpty (intersection a (frameOf fw fh))) refl
   where
-    go : (t : Bool) → isEmpty (intersection a (frameOf fw fh)) ≡ t → Canvas fw fh n (cond t (rectangle origin origin 0 0) (intersection a (frameOf fw fh)))
+    go : (t : Bool) → isEmpty (intersection a (frameOf fw fh)) ≡ t → Canvas (record { width = fw; height = fh; «clip_area» = cond t (rectangle origin origin 0 0) (intersection a (frameOf fw fh)) }) n
     go true e = record { size = s; width = w; height = h; left = omega arith; right = omega arith; top = omega arith; foot = omega arith }
     go false e =
         let p = shown-in-area a (frameOf fw fh) _ refl in
         let q = shown-ends a (frameOf fw fh) _ refl e in
         record { size = s; width = w; height = h; left = p .0; right = q .2; top = p .1; foot = q .3 }
 
-pub damage-canvas : (b b′ : List ℕ) (n : ℕ) (frame : List ℕ) → Accepted b → length frame ≡ pixelCount b → Canvas (frameWidth b) (frameHeight b) (length frame) (damage b b′ n)
+pub damage-canvas : (b b′ : List ℕ) (n : ℕ) (frame : List ℕ) → Accepted b → length frame ≡ pixelCount b → Canvas (targetOf b (damage b b′ n)) (length frame)
 unfolding damage cutToFrame
 damage-canvas b b′ n frame g l =
     let h = g .laid-out .headed in

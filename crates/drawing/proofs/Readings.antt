@@ -2,12 +2,15 @@
 use Prim.Native.Nat.{ℕ, _+_, _-_, _≤_}
 use native.Mathlib.Omega.{arith}
 use mathlib.Core.Path.{_≡_, refl, ap, _∙_}
+use mathlib.Core.Bool.{Bool, true}
 use mathlib.Core.List.{List}
 use lib.ListN.{length, length-take}
 use Rattle.geometry.specs.declared.Point.{Point}
 use Rattle.geometry.specs.declared.Rectangle.{Rectangle}
+use Rattle.geometry.specs.Rectangle.{isEmpty, intersection}
+use Rattle.geometry.specs.declared.DrawTarget.{DrawTarget}
 use Rattle.geometry.specs.Layer.{paintIn}
-use Rattle.geometry.specs.Canvas.{Canvas}
+use Rattle.geometry.specs.Canvas.{Canvas, paintOn}
 use Rattle.mapping.specs.Entries.{WithinLimit}
 use Rattle.line.specs.declared.MonoFont.{MonoFont}
 use Rattle.line.specs.declared.MonoTextStyle.{MonoTextStyle}
@@ -16,19 +19,16 @@ use Rattle.line.specs.Limits.{FontLimits}
 use Rattle.text.specs.declared.TextStyle.{TextStyle}
 use Rattle.text.specs.Text.{textOf, layer, next, boundingBox, inkBox}
 use Rattle.text.specs.Limits.{heightValue, TextLimits}
-use Rattle.sheet.specs.Fields.{part, itemAt, fontAt, fontNumber, atlasBytes, mappingBytes, textBytes, frameWidth, frameHeight}
+use Rattle.sheet.specs.Fields.{part, itemAt, fontAt, fontNumber, atlasBytes, mappingBytes, textBytes, frameWidth}
 use Rattle.sheet.specs.Requires.{FontListed, ItemListed}
-use Rattle.sheet.specs.Records.{monoFont, font, monoTextStyle, textStyle, lineHeight, itemOf, item, itemFont}
+use Rattle.records.specs.Records.{monoFont, font, monoTextStyle, textStyle, itemOf, item, itemFont}
+use Rattle.records.proofs.Readings.{height-value}
 use Rattle.drawing.specs.declared.items.Item.{Item}
 use Rattle.drawing.specs.Drawing.{itemLayer, itemInk, whitespaceLayer, whitespaceNext}
+use Rattle.drawing.specs.Frames.{targetOf}
 use Rattle.drawing.specs.Items.{ItemRead}
 
 -- ---- `item_at`
-
-height-value : (kind value : ℕ) → heightValue (lineHeight kind value) ≡ value
-unfolding lineHeight
-height-value ℕ.zero value = refl
-height-value (ℕ.suc kind) value = refl
 
 module _ (b : List ℕ) (n : ℕ) where
   pub item-read : (k : ℕ) (f : MonoFont) (p : Point) (s : MonoTextStyle) (t : TextStyle) → ItemListed b n
@@ -57,7 +57,9 @@ module _ (b : List ℕ) (n : ℕ) where
   -- ---- what drawing an item requires
 
   pub mapping-limit : (k : ℕ) (mapping : List ℕ) → FontListed b k → mapping ≡ mappingBytes b (fontAt k) → WithinLimit mapping
-  mapping-limit k mapping g e = record { spelled = rw e (g .accepted .font-fits k (g .listed) .mapping-short) }
+  mapping-limit k mapping g e =
+      let fits = g .accepted .font-fits k (g .listed) in
+      record { well = rw e (fits .mapping-well); spelled = rw e (fits .mapping-short) }
 
   module _ (i : Item) (words : List ℕ) (r : ItemRead b n i) (w : words ≡ textBytes b (itemAt b n)) where
     pub item-limits : TextLimits (length words) (i .position .x) (i .position .y) (i .«text_style» .«line_height»)
@@ -79,27 +81,50 @@ module _ (b : List ℕ) (n : ℕ) where
     pub item-box : (a : Rectangle) → a ≡ boundingBox (i .font) (textOf words (i .position .x) (i .position .y) (i .«character_style») (i .«text_style»)) → a ≡ boundingBox (itemFont b n .mono) (item b n)
     item-box a e = rw (item-is, r .font) at e
 
-    pub item-painted : (fw : ℕ) (clip : Rectangle) (atlas mapping xs ys : List ℕ) → fw ≡ frameWidth b
+    pub item-painted : (t : DrawTarget) (clip : Rectangle) (atlas mapping xs ys : List ℕ) → t ≡ targetOf b clip
         → atlas ≡ atlasBytes b (fontAt (i .«font_number»)) → mapping ≡ mappingBytes b (fontAt (i .«font_number»))
-        → ys ≡ paintIn fw clip (layer (fontOf (i .font) atlas mapping) (textOf words (i .position .x) (i .position .y) (i .«character_style») (i .«text_style»))) xs
+        → ys ≡ paintOn t (layer (fontOf (i .font) atlas mapping) (textOf words (i .position .x) (i .position .y) (i .«character_style») (i .«text_style»))) xs
         → ys ≡ paintIn (frameWidth b) clip (itemLayer b n) xs
     unfolding itemLayer itemFont font
-    item-painted fw clip atlas mapping xs ys ef ea em e = rw (item-is, ef, ea, em, r .font, r .font-number) at e
+    item-painted t clip atlas mapping xs ys et ea em e = rw (item-is, et, ea, em, r .font, r .font-number) at e
 
--- ---- the frame's size as it is read
+-- ---- what of an item tells where it stands
 
-pub canvas-read : (b : List ℕ) (fw fh n : ℕ) (clip : Rectangle) → Canvas (frameWidth b) (frameHeight b) n clip → fw ≡ frameWidth b → fh ≡ frameHeight b → Canvas fw fh n clip
-canvas-read b fw fh n clip c w h = rw (w, h) c
+module _ (b : List ℕ) (n k : ℕ) (f : MonoFont) (p : Point) (t : TextStyle) (words : List ℕ) (g : ItemListed b n)
+    (ek : k ≡ fontNumber b (itemAt b n)) (ef : f ≡ monoFont b (fontAt k)) (limits : FontLimits f)
+    (ep : p ≡ itemOf b (itemAt b n) .position) (px : p .x ≤ 4_194_304) (py : p .y ≤ 4_194_304)
+    (et : t ≡ textStyle b (itemAt b n)) (ew : words ≡ textBytes b (itemAt b n)) where
+  layout : Item
+  layout = record { «font_number» = k; font = f; position = p; «character_style» = monoTextStyle b (itemAt b n); «text_style» = t }
+
+  layout-read : ItemRead b n layout
+  unfolding layout
+  layout-read = item-read b n k f p (monoTextStyle b (itemAt b n)) t g ek ef limits ep px py refl et
+
+  pub layout-limits : TextLimits (length words) (p .x) (p .y) (t .«line_height»)
+  unfolding layout
+  layout-limits = item-limits b n layout words layout-read ew
+
+  -- what holds in any style holds in the item's
+  pub layout-apart : (r : Bool) (clip : Rectangle) → (r ≡ true → (s : MonoTextStyle) → isEmpty (intersection (inkBox f (textOf words (p .x) (p .y) s t)) clip) ≡ true) → r ≡ true
+      → isEmpty (intersection (itemInk b n) clip) ≡ true
+  unfolding layout
+  layout-apart r clip h e = rw (← item-ink b n layout words layout-read ew _ refl) (h e (monoTextStyle b (itemAt b n)))
+
+-- ---- the frame as it is read
+
+pub canvas-read : (b : List ℕ) (t : DrawTarget) (n : ℕ) (clip : Rectangle) → Canvas (targetOf b clip) n → t ≡ targetOf b clip → Canvas t n
+canvas-read b t n clip c e = rw e c
 
 -- ---- whitespace at an item's place
 
 module _ (b : List ℕ) (n width : ℕ) (i : Item) (r : ItemRead b n i) where
-  pub whitespace-painted : (fw top offset : ℕ) (clip : Rectangle) (xs ys : List ℕ)
-      → ys ≡ paintIn fw clip (whitespace (i .font) (i .«character_style») width (i .position .x) top) xs
-      → fw ≡ frameWidth b → top ≡ i .position .y - offset → offset ≡ baselineOffset (i .font) (i .«text_style» .baseline)
+  pub whitespace-painted : (t : DrawTarget) (top offset : ℕ) (clip : Rectangle) (xs ys : List ℕ)
+      → ys ≡ paintOn t (whitespace (i .font) (i .«character_style») width (i .position .x) top) xs
+      → t ≡ targetOf b clip → top ≡ i .position .y - offset → offset ≡ baselineOffset (i .font) (i .«text_style» .baseline)
       → ys ≡ paintIn (frameWidth b) clip (whitespaceLayer (itemFont b n .mono) (item b n) width) xs
   unfolding whitespaceLayer
-  whitespace-painted fw top offset clip xs ys e ef et eo = rw (ef, et, eo, r .font, r .position, r .character-style, r .text-style) at e
+  whitespace-painted t top offset clip xs ys e er et eo = rw (er, et, eo, r .font, r .position, r .character-style, r .text-style) at e
 
   pub whitespace-next : (x : ℕ) → x ≡ i .position .x + width → _≡_ {A = Point} (record { x = x; y = i .position .y }) (whitespaceNext (item b n) width)
   unfolding whitespaceNext

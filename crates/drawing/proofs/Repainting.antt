@@ -18,9 +18,10 @@ use Rattle.geometry.proofs.Layers.{length-paint, paint-at, paint-over, paint-ag
 use Rattle.text.proofs.Ink.{layer-out}
 use Rattle.sheet.specs.Fields.{frameWidth, frameHeight, paper, itemCount}
 use Rattle.sheet.specs.Accepted.{Accepted}
-use Rattle.sheet.specs.Records.{item, itemFont}
+use Rattle.records.specs.Records.{item, itemFont}
 use Rattle.sheet.specs.Edits.{Edit, itemNumber, refusal, edited}
-use Rattle.sheet.proofs.Unchanged.{same-frameWidth, same-frameHeight, same-paper, same-itemCount, same-other, same-itemFont}
+use Rattle.sheet.proofs.Unchanged.{same-frameWidth, same-frameHeight, same-paper, same-itemCount}
+use Rattle.records.proofs.Unchanged.{same-other, same-itemFont}
 use Rattle.drawing.specs.Drawing.{numbersFrom, order, itemLayer, itemsLayer, pageLayer, freshDrawing, pixelCount, columnOf, rowOf, page, itemInk, damage, repainted}
 use Rattle.drawing.proofs.DamageHolds.{damage-before, damage-after}
 

@@ -1,5 +1,6 @@
--- The page of a sheet: its fresh drawing, the damage rectangle of an edit, and repainting (document 01, Drawing and edits).
+-- The page of a sheet: its fresh drawing, the damage rectangle of an edit, and repainting (docs/SHEET.md, Drawing and edits).
 -- Assumes nothing.
+-- To be believed: it says what a sheet means.
 use Prim.Native.Nat.{ℕ, zero, suc, _+_, _*_, _/_, _%_}
 use mathlib.Core.Bool.{cond}
 use mathlib.Core.List.{List, [], _∷_}
@@ -12,7 +13,7 @@ use Rattle.line.specs.declared.MonoFont.{MonoFont}
 use Rattle.line.specs.Line.{topEdge, whitespace}
 use Rattle.text.specs.Text.{Text, layer, inkBox}
 use Rattle.sheet.specs.Fields.{frameWidth, frameHeight, paper, itemCount}
-use Rattle.sheet.specs.Records.{item, itemFont}
+use Rattle.records.specs.Records.{item, itemFont}
 
 -- ---- fresh drawing
 
@@ -64,7 +65,7 @@ whitespaceLayer m t width = whitespace m (t .characterStyle) width (t .position 
 unfoldable pub whitespaceNext : Text → ℕ → Point
 whitespaceNext t width = record { x = t .position .x + width; y = t .position .y }
 
--- ---- document 01's damage rectangle
+-- ---- the damage rectangle
 
 -- "(0, 0, 0, 0) if empty", counted from the frame's corner
 unfoldable pub orNone : Rectangle → Rectangle

@@ -1,4 +1,5 @@
 -- What is read of an item by value. Assumes nothing.
+-- Serves contracts: nothing here has to be believed.
 use Prim.Native.Nat.{ℕ}
 use mathlib.Core.Path.{_≡_}
 use mathlib.Core.List.{List}
@@ -6,7 +7,7 @@ use lib.ListN.{length}
 use Rattle.line.specs.Limits.{FontLimits}
 use Rattle.text.specs.Limits.{TextLimits}
 use Rattle.sheet.specs.Fields.{itemAt, fontNumber}
-use Rattle.sheet.specs.Records.{item, itemFont}
+use Rattle.records.specs.Records.{item, itemFont}
 use Rattle.drawing.specs.declared.items.Item.{Item}
 
 -- item n of a sheet with its font, within the limits of drawing

@@ -1,28 +1,30 @@
 // The fresh drawing of a sheet, and repainting.
+use geometry::DrawTarget;
 use geometry::ORIGIN;
 use geometry::Point;
 use geometry::Rectangle;
 use geometry::numbers::minus;
+use ink::is_missed;
 use items::item_at;
 use sheet::fields::frame_height;
 use sheet::fields::frame_width;
 use sheet::fields::item_count;
+use text::TextLayout;
 ghost use mathlib.Core.Path.{_≡_};
 ghost use Prim.Native.Nat.{_≤_};
 ghost use lib.ListN.{length};
 ghost use Rattle.geometry.specs.Layer.{paint, paintIn, frameOf};
-ghost use mathlib.Core.Bool.{true};
-ghost use Rattle.geometry.specs.Rectangle.{isEmpty, intersection};
 ghost use Rattle.geometry.specs.Canvas.{Canvas};
 ghost use Rattle.text.specs.Text.{next, boundingBox};
 ghost use Rattle.sheet.specs.Fields.{frameWidth, frameHeight};
 ghost use Rattle.sheet.specs.Accepted.{Accepted};
 ghost use Rattle.sheet.specs.Requires.{ItemListed};
-ghost use Rattle.sheet.specs.Records.{item, itemFont};
-ghost use Rattle.drawing.specs.Drawing.{order, itemLayer, itemsLayer, freshDrawing, whitespaceLayer, whitespaceNext, itemInk, repainted};
-ghost use Rattle.drawing.specs.Frames.{Framed};
+ghost use Rattle.records.specs.Records.{item, itemFont};
+ghost use Rattle.drawing.specs.Drawing.{order, itemLayer, itemsLayer, freshDrawing, whitespaceLayer, whitespaceNext, repainted};
+ghost use Rattle.drawing.specs.Frames.{targetOf, Framed};
 
 pub mod damage;
+mod ink;
 mod items;
 
 // The rectangle of the sheet's frame.
@@ -38,70 +40,49 @@ fn frame_of(sheet: &[u8]) -> Rectangle
     }
 }
 
+// The sheet's frame, of which only what lies in a clip may change.
+fn target_of(sheet: &[u8], clip: Rectangle) -> DrawTarget
+    requires { ⌜ Accepted (now sheet) ⌝ }
+    ensures { λ r. ⌜ r ≡ targetOf (now (sheet .entry)) clip ⌝ }
+{
+    let width = frame_width(sheet) as usize;
+    let height = frame_height(sheet) as usize;
+    DrawTarget {
+        width,
+        height,
+        clip_area: clip,
+    }
+}
+
 // Draws an item in a clip; gives its next position.
 fn draw_item_in(sheet: &[u8], frame: &mut [u8], clip: Rectangle, n: u32) -> Point
     requires { ⌜ ItemListed (now sheet) n ⌝ }
-    requires { ⌜ Canvas (frameWidth (now sheet)) (frameHeight (now sheet)) (length (now frame)) clip ⌝ }
+    requires { ⌜ Canvas (targetOf (now sheet) clip) (length (now frame)) ⌝ }
     ensures { λ _. ⌜ now (frame .exit) ≡ paintIn (frameWidth (now (sheet .entry))) clip (itemLayer (now (sheet .entry)) n) (now (frame .entry)) ⌝ }
     ensures { λ r. ⌜ r ≡ next (itemFont (now (sheet .entry)) n .mono) (item (now (sheet .entry)) n) ⌝ }
 {
-    let fw = frame_width(sheet) as usize;
-    let fh = frame_height(sheet) as usize;
+    let target = target_of(sheet, clip);
     let item = item_at(sheet, n);
     let k = item.font_number;
     let atlas = records::atlas_bytes(sheet, k);
     let mapping = records::mapping_bytes(sheet, k);
-    let words = records::text_bytes(sheet, n);
+    let text = records::text_bytes(sheet, n);
     let font = item.font;
-    let style = item.character_style;
+    let position = item.position;
+    let character_style = item.character_style;
     let text_style = item.text_style;
-    let p = item.position;
-    text::draw(
-        frame,
-        fw,
-        fh,
-        clip,
-        atlas,
-        mapping,
-        words,
-        font,
-        style,
+    let layout = TextLayout {
+        position,
+        character_style,
         text_style,
-        p.x,
-        p.y,
-    )
-}
-
-// The ink box of an item.
-fn item_ink(sheet: &[u8], n: u32) -> Rectangle
-    requires { ⌜ ItemListed (now sheet) n ⌝ }
-    ensures { λ r. ⌜ r ≡ itemInk (now (sheet .entry)) n ⌝ }
-{
-    let item = item_at(sheet, n);
-    let words = records::text_bytes(sheet, n);
-    let font = item.font;
-    let style = item.character_style;
-    let text_style = item.text_style;
-    let p = item.position;
-    text::ink_box(words, font, style, text_style, p.x, p.y)
-}
-
-// Whether the clip does not meet an item's ink box; of a clip that is the whole frame it is not asked.
-fn is_missed(sheet: &[u8], clip: Rectangle, whole: bool, n: u32) -> bool
-    requires { ⌜ ItemListed (now sheet) n ⌝ }
-    ensures { λ r. ⌜ (r ≡ true → isEmpty (intersection (itemInk (now (sheet .entry)) n) clip) ≡ true) ⌝ }
-{
-    if whole {
-        return false;
-    }
-    let met = item_ink(sheet, n).intersection(clip);
-    met.is_empty()
+    };
+    text::draw(frame, target, atlas, mapping, text, font, layout)
 }
 
 // Draws an item in a clip; one whose ink box the clip does not meet is not drawn.
 fn draw_met_item(sheet: &[u8], frame: &mut [u8], clip: Rectangle, whole: bool, n: u32)
     requires { ⌜ ItemListed (now sheet) n ⌝ }
-    requires { ⌜ Canvas (frameWidth (now sheet)) (frameHeight (now sheet)) (length (now frame)) clip ⌝ }
+    requires { ⌜ Canvas (targetOf (now sheet) clip) (length (now frame)) ⌝ }
     ensures { λ _. ⌜ now (frame .exit) ≡ paintIn (frameWidth (now (sheet .entry))) clip (itemLayer (now (sheet .entry)) n) (now (frame .entry)) ⌝ }
 {
     if is_missed(sheet, clip, whole, n) {
@@ -113,7 +94,7 @@ fn draw_met_item(sheet: &[u8], frame: &mut [u8], clip: Rectangle, whole: bool, n
 // Draws the items in a clip, in order; `whole` says that the clip is the frame, which saves the ink boxes.
 fn draw_items(sheet: &[u8], frame: &mut [u8], clip: Rectangle, whole: bool)
     requires { ⌜ Accepted (now sheet) ⌝ }
-    requires { ⌜ Canvas (frameWidth (now sheet)) (frameHeight (now sheet)) (length (now frame)) clip ⌝ }
+    requires { ⌜ Canvas (targetOf (now sheet) clip) (length (now frame)) ⌝ }
     ensures { λ _. ⌜ now (frame .exit) ≡ paintIn (frameWidth (now (sheet .entry))) clip (itemsLayer (now (sheet .entry)) (order (now (sheet .entry)))) (now (frame .entry)) ⌝ }
 {
     let items = item_count(sheet);
@@ -127,14 +108,13 @@ fn draw_items(sheet: &[u8], frame: &mut [u8], clip: Rectangle, whole: bool)
 // Paints the page's pixels in a rectangle of the frame: paper, then the items.
 pub fn repaint(sheet: &[u8], frame: &mut [u8], area: Rectangle)
     requires { ⌜ Accepted (now sheet) ⌝ }
-    requires { ⌜ Canvas (frameWidth (now sheet)) (frameHeight (now sheet)) (length (now frame)) area ⌝ }
+    requires { ⌜ Canvas (targetOf (now sheet) area) (length (now frame)) ⌝ }
     ensures { λ _. ⌜ now (frame .exit) ≡ repainted (now (sheet .entry)) area (now (frame .entry)) ⌝ }
 {
-    let fw = frame_width(sheet) as usize;
-    let fh = frame_height(sheet) as usize;
+    let target = target_of(sheet, area);
     let grey = sheet::fields::paper(sheet);
-    geometry::fill_solid(frame, fw, fh, area, area, grey);
-    let whole = (area.width as usize == fw) & (area.height as usize == fh);
+    geometry::fill_solid(frame, target, area, grey);
+    let whole = (area.width as usize == target.width) & (area.height as usize == target.height);
     draw_items(sheet, frame, area, whole);
 }
 
@@ -161,13 +141,12 @@ pub fn draw_item(sheet: &[u8], frame: &mut [u8], n: u32) -> Point
 // Draws whitespace of a width at an item's place in a clip; gives the next position.
 fn draw_whitespace_in(sheet: &[u8], frame: &mut [u8], clip: Rectangle, n: u32, width: u32) -> Point
     requires { ⌜ ItemListed (now sheet) n ⌝ }
-    requires { ⌜ Canvas (frameWidth (now sheet)) (frameHeight (now sheet)) (length (now frame)) clip ⌝ }
+    requires { ⌜ Canvas (targetOf (now sheet) clip) (length (now frame)) ⌝ }
     requires { ⌜ width ≤ 65_535 ⌝ }
     ensures { λ _. ⌜ now (frame .exit) ≡ paintIn (frameWidth (now (sheet .entry))) clip (whitespaceLayer (itemFont (now (sheet .entry)) n .mono) (item (now (sheet .entry)) n) width) (now (frame .entry)) ⌝ }
     ensures { λ r. ⌜ r ≡ whitespaceNext (item (now (sheet .entry)) n) width ⌝ }
 {
-    let fw = frame_width(sheet) as usize;
-    let fh = frame_height(sheet) as usize;
+    let target = target_of(sheet, clip);
     let item = item_at(sheet, n);
     let font = item.font;
     let style = item.character_style;
@@ -175,7 +154,8 @@ fn draw_whitespace_in(sheet: &[u8], frame: &mut [u8], clip: Rectangle, n: u32, w
     let baseline = text_style.baseline;
     let p = item.position;
     let top = minus(p.y, line::baseline_offset(font, baseline));
-    let x = line::draw_whitespace(frame, fw, fh, clip, font, style, width, p.x, top);
+    let corner = Point { x: p.x, y: top };
+    let x = line::draw_whitespace(frame, target, font, style, corner, width);
     Point { x, y: p.y }
 }
 
@@ -197,10 +177,10 @@ pub fn bounding_box(sheet: &[u8], n: u32) -> Rectangle
     ensures { λ r. ⌜ r ≡ boundingBox (itemFont (now (sheet .entry)) n .mono) (item (now (sheet .entry)) n) ⌝ }
 {
     let item = item_at(sheet, n);
-    let words = records::text_bytes(sheet, n);
+    let text = records::text_bytes(sheet, n);
     let font = item.font;
     let style = item.character_style;
     let text_style = item.text_style;
     let p = item.position;
-    text::bounding_box(words, font, style, text_style, p.x, p.y)
+    text::bounding_box(text, font, style, text_style, p.x, p.y)
 }

@@ -3,7 +3,11 @@
 // 1 place, 2 style), an item (4) and the data, which are a length (2) and the bytes, or x and y (4 each).
 use check::same;
 use libc::STDIN_FILENO;
-use replay::byte_or_zero;
+use numbers::byte_or_zero;
+use programs::write_either;
+use programs::write_line;
+use programs::write_number;
+use programs::write_word;
 use replay::edit;
 use replay::edit_on_sheet;
 use replay::least;
@@ -14,12 +18,7 @@ use replay::signed;
 use replay::store;
 use replay::u16_of;
 use replay::u32_of;
-use replay::write_either;
-use replay::write_line;
-use replay::write_number;
-use replay::write_word;
 use station::Box;
-ghost use mathlib.Core.Path.{_≡_};
 ghost use Prim.Native.Nat.{_<_, _≤_};
 
 // A number that is not negative; 65,536, where no frame reaches, for one that is.

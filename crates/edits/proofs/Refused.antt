@@ -12,7 +12,7 @@ use mir.Val.{SFits}
 use mir.Facts.{toZ-ofZ}
 use borrow.Author.Tests.{lt-ltb, le-ltb, ltb-true, le-leb, lt-leb, eq-eqb, ne-eqb}
 use Rattle.characters.specs.Refusal.{need}
-use Rattle.sheet.specs.Fields.{u16, itemCount, itemAt, slotSize}
+use Rattle.sheet.specs.Fields.{le16At, itemCount, itemAt, slotSize}
 use Rattle.sheet.specs.Accepted.{Accepted}
 use Rattle.sheet.specs.Edits.{inRange}
 use Rattle.sheet.proofs.Refusals.{need-zero}
@@ -47,7 +47,7 @@ module _ (b : List ℕ) (i n : ℕ) (e : n ≡ need (ltb i (itemCount b)) 12 0) 
 
 -- ---- 13
 
-module _ (b : List ℕ) (i o size len rest : ℕ) (e : o ≡ itemAt b i) (s : size ≡ u16 b (o + 8)) where
+module _ (b : List ℕ) (i o size len rest : ℕ) (e : o ≡ itemAt b i) (s : size ≡ le16At b (o + 8)) where
   pub too-long : size < len → 13 ≡ need (leb len (slotSize b (itemAt b i))) 13 rest
   too-long h = rw (← e, ← s, lt-leb len size h)
 

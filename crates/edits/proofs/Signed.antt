@@ -10,6 +10,7 @@ use mir.Syntax.{w32}
 use mir.Val.{toZ, ofZ, Fits, SFits}
 use mir.Facts.{toZ-ofZ}
 use borrow.Author.Tests.{lt-ltb, le-ltb, ltb-true, ltb-false}
+use Rattle.geometry.specs.Layer.{origin}
 use Rattle.sheet.specs.Edits.{inRange, biased}
 
 -- the number that the code reads
@@ -26,10 +27,10 @@ unfolding inRange
 not-low (pos n) e = refl
 not-low (negsuc n) e = sym (lt-ltb n 32_768 (omega (arith, ltb-false 32_767 n e)))
 
-moved : (z : ℤ) → inRange z ≡ true → z +ℤ pos 2_097_152 ≡ pos (biased z)
+moved : (z : ℤ) → inRange z ≡ true → z +ℤ pos origin ≡ pos (biased z)
 unfolding inRange biased
 moved (pos n) h = ap pos (omega arith)
-moved (negsuc n) h = let l = ltb-true n 32_768 h in let m : suc n ≤ 2_097_152 = omega arith in simp (le-ltb _ _ m)
+moved (negsuc n) h = let l = ltb-true n 32_768 h in let m : suc n ≤ origin = omega arith in simp (le-ltb _ _ m)
 
 small : (z : ℤ) → inRange z ≡ true → biased z < 2 ^ 31
 unfolding inRange biased
@@ -44,17 +45,17 @@ module _ (z : ℤ) (f : SFits w32 z) where
   not-below h = rw (toZ-ofZ {z = z} f) (not-low z (rw (toZ-ofZ {z = z} f) at h))
 
   module _ (h : inRange z ≡ true) where
-    sum : read z +ℤ pos 2_097_152 ≡ pos (biased z)
-    sum = ap (λ (x : ℤ). x +ℤ pos 2_097_152) (toZ-ofZ {z = z} f) ∙ moved z h
+    sum : read z +ℤ pos origin ≡ pos (biased z)
+    sum = ap (λ (x : ℤ). x +ℤ pos origin) (toZ-ofZ {z = z} f) ∙ moved z h
 
-    pub sum-fits : SFits w32 (read z +ℤ pos 2_097_152)
+    pub sum-fits : SFits w32 (read z +ℤ pos origin)
     sum-fits = rw sum (record { sfits = small z h })
 
-    sum-read : read (read z +ℤ pos 2_097_152) ≡ pos (biased z)
-    sum-read = toZ-ofZ {z = read z +ℤ pos 2_097_152} sum-fits ∙ sum
+    sum-read : read (read z +ℤ pos origin) ≡ pos (biased z)
+    sum-read = toZ-ofZ {z = read z +ℤ pos origin} sum-fits ∙ sum
 
-    pub sum-casts : T (nonNeg (read (read z +ℤ pos 2_097_152))) × Fits w32 (natAbs (read (read z +ℤ pos 2_097_152)))
+    pub sum-casts : T (nonNeg (read (read z +ℤ pos origin))) × Fits w32 (natAbs (read (read z +ℤ pos origin)))
     sum-casts = rw sum-read (tt, record { fits = omega (arith, small z h) })
 
-    pub sum-is : natAbs (read (read z +ℤ pos 2_097_152)) ≡ biased z
+    pub sum-is : natAbs (read (read z +ℤ pos origin)) ≡ biased z
     sum-is = ap natAbs sum-read

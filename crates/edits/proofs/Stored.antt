@@ -1,8 +1,8 @@
 -- What the stores leave: bytes of a number, bytes and then zeros, and a part of the file replaced. Assumes nothing.
-use Prim.Native.Nat.{ℕ, zero, suc, _+_, _-_, _/_, _%_, _≤_, _<_}
-use mathlib.Core.Path.{_≡_, refl, sym, _∙_, ap}
+use Prim.Native.Nat.{ℕ, _+_, _-_, _/_, _%_, _≤_, _<_}
+use mathlib.Core.Path.{_≡_, sym, _∙_, ap}
 use mathlib.Core.Bool.{true}
-use mathlib.Core.List.{List, [], _∷_, _++_, append-assoc}
+use mathlib.Core.List.{List, _++_, append-assoc}
 use lib.IntN.{ℤ}
 use lib.ListN.{length, getD, set, take, drop, replicate, length-take, length-drop, List·getD-eq-default}
 use lib.Seq.{sets, sets-eq, length-sets, ext-getD, drop-drop, getD-set-same, getD-set-other}
@@ -12,10 +12,10 @@ use native.Mathlib.Decide.{decLt}
 use mir.Syntax.{w32}
 use mir.Val.{SFits}
 use mir.Facts.{toZ-ofZ}
-use Rattle.sheet.specs.Fields.{u16, u32, le16, itemAt}
+use Rattle.sheet.specs.Fields.{le16At, le32At, le16, itemAt}
 use Rattle.sheet.specs.Requires.{EditAllowed, TextFits, StyleFits}
 use Rattle.sheet.specs.Edits.{newText, newPlace, newStyle, inRange, biased, putText, putPlace, putStyle}
-use Rattle.sheet.proofs.Bytes.{length-padded}
+use Rattle.sheet.proofs.Bytes.{length-padded, padded-at}
 use Rattle.sheet.proofs.Allowed.{text-allowed, place-allowed, style-allowed, listed}
 use Rattle.edits.proofs.Signed.{read}
 
@@ -27,16 +27,6 @@ two-bytes s i n = rw add-one
 
 pub past-end : (s : List ℕ) (i : ℕ) → length s ≤ i → 0 ≡ getD s i 0
 past-end s i h = sym (List·getD-eq-default s 0 h)
-
-zeros-at : (n k : ℕ) → _≡_ {A = ℕ} (getD (replicate n 0) k 0) 0
-zeros-at zero k = refl
-zeros-at (suc n) zero = refl
-zeros-at (suc n) (suc k) = zeros-at n k
-
-padded-at : (t : List ℕ) (n k : ℕ) → getD (t ++ replicate n 0) k 0 ≡ getD t k 0
-padded-at [] n k = zeros-at n k
-padded-at (a ∷ t) n zero = refl
-padded-at (a ∷ t) n (suc k) = padded-at t n k
 
 module _ (t : List ℕ) where
   pub padded-more : (s : List ℕ) (i v : ℕ) → i < length s → v ≡ getD t i 0 → ((k : ℕ) → k < i → getD s k 0 ≡ getD t k 0) → (k : ℕ) → k < i + 1 → getD (set s i v) k 0 ≡ getD t k 0
@@ -56,7 +46,7 @@ mid-length : (l : List ℕ) (a n : ℕ) → a + n ≤ length l → length (take 
 mid-length l a n h = simp (length-take, length-drop) (omega arith)
 
 -- the code's stores are the definition's
-pub text-stored : (b : List ℕ) (o a n : ℕ) (t s vs : List ℕ) → TextFits b o t → a ≡ u32 b (o + 4) → n ≡ u16 b (o + 8) → s ≡ sets b (o + 10) (le16 (length t))
+pub text-stored : (b : List ℕ) (o a n : ℕ) (t s vs : List ℕ) → TextFits b o t → a ≡ le32At b (o + 4) → n ≡ le16At b (o + 8) → s ≡ sets b (o + 10) (le16 (length t))
     → vs ≡ t ++ replicate (length (take (a + n - a) (drop a s)) - length t) 0 → take a s ++ (vs ++ drop (a + n - a) (drop a s)) ≡ putText b o t
 unfolding putText
 text-stored b o a n t s vs g ea en es ev =

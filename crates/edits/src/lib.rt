@@ -1,5 +1,7 @@
 // The three edits on an accepted sheet's bytes: whether each is refused, and what it stores.
+use geometry::ORIGIN;
 use limits::good_modes;
+use numbers::byte_or_zero;
 use sheet::fields::item_count;
 use sheet::fields::item_offset;
 use sheet::fields::u16_at;
@@ -9,7 +11,7 @@ ghost use mathlib.Core.Bool.{true};
 ghost use mathlib.Core.List.{_++_};
 ghost use Prim.Native.Nat.{_+_, _-_, _≤_};
 ghost use lib.Dec.{ltb};
-ghost use lib.ListN.{length, getD, replicate};
+ghost use lib.ListN.{length, replicate};
 ghost use lib.Seq.{sets};
 ghost use Rattle.characters.specs.Refusal.{need};
 ghost use Rattle.sheet.specs.Fields.{le16, itemCount, itemAt};
@@ -98,16 +100,6 @@ fn store_u16(bytes: &mut [u8], at: usize, n: usize)
     bytes[at + 1] = (n / 256 % 256) as u8;
 }
 
-// The byte at `at`, or 0 past the end.
-fn byte_or_zero(bytes: &[u8], at: usize) -> u8
-    ensures { λ r. ⌜ r ≡ getD (now (bytes .entry)) at 0 ⌝ }
-{
-    if at < bytes.len() {
-        return bytes[at];
-    }
-    0
-}
-
 // Stores bytes, then 0 to the end.
 fn store_padded(to: &mut [u8], from: &[u8])
     requires { ⌜ length (now from) ≤ length (now to) ⌝ }
@@ -146,7 +138,7 @@ pub fn biased(z: i32) -> u32
     requires { ⌜ inRange z ≡ true ⌝ }
     ensures { λ r. ⌜ r ≡ biased z ⌝ }
 {
-    (z + 2097152) as u32
+    (z + ORIGIN as i32) as u32
 }
 
 // Stores a place in the item whose record stands at `o`.

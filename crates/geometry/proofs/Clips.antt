@@ -1,13 +1,16 @@
 -- Laws of what a clip shows of an area: the intersection of the two, as the painters compute it. Assumes nothing.
-use Prim.Native.Nat.{ℕ, _+_, _-_, _≤_}
+use Prim.Native.Nat.{ℕ, _+_, _-_, _*_, _≤_}
+use native.Mathlib.Nat.{mul-le-mul, mul-le-mul-right}
 use native.Mathlib.Omega.{arith}
 use mathlib.Core.Path.{_≡_, sym, _∙_}
 use mathlib.Core.Bool.{Bool, true, false}
 use mathlib.Core.List.{List}
 use Rattle.geometry.specs.declared.Rectangle.{Rectangle}
+use Rattle.geometry.specs.declared.DrawTarget.{DrawTarget}
+use Rattle.geometry.specs.declared.FrameArea.{FrameArea}
 use Rattle.geometry.specs.Rectangle.{isEmpty, intersection}
 use Rattle.geometry.specs.Layer.{origin, Layer, within, paint, paintIn}
-use Rattle.geometry.specs.Canvas.{Canvas, onFrame}
+use Rattle.geometry.specs.Canvas.{Canvas, StartsOnFrame, InFrame, fromCorner, onFrame}
 use Rattle.geometry.proofs.Rectangles.{empty-out, not-empty}
 use Rattle.geometry.proofs.Layers.{within-out, within-intersection, paint-none, paint-same}
 
@@ -44,20 +47,23 @@ module _ (clip area shown : Rectangle) (e : shown ≡ intersection clip area) wh
       sym (paint-none fw (within shown f) xs (λ c r grey. within-out shown f c r grey (empty-out shown empty is-empty holds c r)))
       ∙ paint-shown fw f xs
 
-  module _ (fw fh n : ℕ) (canvas : Canvas fw fh n clip) where
-    pub shown-left : origin ≤ shown .left
-    shown-left = omega (arith, shown-in-clip)
+-- what a draw target shows of an area
+module _ (t : DrawTarget) (area shown : Rectangle) (e : shown ≡ intersection (t .«clip_area») area) (n : ℕ) (canvas : Canvas t n) where
+  pub shown-starts : StartsOnFrame shown
+  shown-starts = omega (arith, canvas, shown-in-clip (t .«clip_area») area shown e)
 
-    pub shown-top : origin ≤ shown .top
-    shown-top = omega (arith, shown-in-clip)
-
+  module _ (part : FrameArea) (p : part ≡ fromCorner shown) where
     -- counted from the frame's corner it is the same rectangle
-    pub shown-on-frame : onFrame (shown .left - origin) (shown .top - origin) (shown .width) (shown .height) ≡ shown
-    shown-on-frame =
-        let l : origin + (shown .left - origin) ≡ shown .left = omega (arith, shown-left) in
-        let t : origin + (shown .top - origin) ≡ shown .top = omega (arith, shown-top) in
-        rw (l, t)
+    pub part-on-frame : onFrame part ≡ shown
+    part-on-frame =
+        let l : origin + (shown .left - origin) ≡ shown .left = omega (arith, shown-starts) in
+        let u : origin + (shown .top - origin) ≡ shown .top = omega (arith, shown-starts) in
+        rw (p, l, u)
 
     -- and lies in the frame
-    pub shown-canvas : (empty : Bool) → empty ≡ isEmpty shown → empty ≡ false → Canvas fw fh n (onFrame (shown .left - origin) (shown .top - origin) (shown .width) (shown .height))
-    shown-canvas empty is-empty holds = let b = shown-ends (cc) in rw shown-on-frame (omega (arith, canvas, shown-in-clip))
+    pub part-in-frame : (empty : Bool) → empty ≡ isEmpty shown → empty ≡ false → InFrame (t .width) n part
+    part-in-frame empty is-empty holds =
+        let b = shown-ends (t .«clip_area») area shown e (cc) in
+        let m : (shown .top - origin + shown .height) * t .width ≤ t .height * t .width = mul-le-mul-right (t .width) (omega (arith, canvas, shown-starts)) in
+        let s : t .height * t .width ≤ 512 * 512 = mul-le-mul (canvas .height) (canvas .width) in
+        rw p (omega (arith, canvas, shown-starts))

@@ -1,6 +1,6 @@
 -- Laws of a frame: a run of its pixels painted and put back, and a rectangle of it painted row by row. Assumes nothing.
 use Prim.Native.Nat.{ℕ, suc, _+_, _-_, _*_, _/_, _%_, _≤_, _<_}
-use native.Mathlib.Nat.{add-zero, add-suc, suc-add, add-mul, mul-zero, mul-le-mul, mul-le-mul-right, mod-lt, div-add-mod', div-lt-iff-lt-mul, le-div-iff-mul-le, eq-zero-or-pos, eq-or-lt-of-le, add-sub-cancel-left}
+use native.Mathlib.Nat.{add-zero, add-suc, suc-add, add-mul, mul-zero, mul-le-mul-right, mod-lt, div-add-mod', div-lt-iff-lt-mul, le-div-iff-mul-le, eq-zero-or-pos, eq-or-lt-of-le, add-sub-cancel-left}
 use native.Mathlib.Omega.{arith}
 use mathlib.Core.Path.{_≡_, refl, sym, ap, _∙_}
 use mathlib.Core.List.{List, [], _∷_, _++_}
@@ -12,8 +12,10 @@ use mir.Syntax.{w64}
 use mir.Val.{Fits}
 use borrow.Rule.Slice.PartMut.{putMid}
 use Rattle.geometry.specs.declared.Rectangle.{Rectangle}
+use Rattle.geometry.specs.declared.FrameArea.{FrameArea}
+use Rattle.geometry.specs.Rectangle.{rectangle}
 use Rattle.geometry.specs.Layer.{origin, Layer, over, within, mapIndexed, paint}
-use Rattle.geometry.specs.Canvas.{Canvas, onFrame}
+use Rattle.geometry.specs.Canvas.{InFrame, onFrame}
 use Rattle.geometry.proofs.Rectangles.{In, in-or-out}
 use Rattle.geometry.proofs.Layers.{within-in, within-out, length-mapIndexed, mapIndexed-at, mapIndexed-same, length-paint, paint-over, paint-none, paint-same}
 
@@ -46,7 +48,7 @@ pub record Run (fw a n : ℕ) (m : Rectangle) : Type 0 where
   pub outside : (i : ℕ) → In m (origin + i % fw) (origin + i / fw) → (a ≤ i) × (i < a + n)
 
 -- part of a row
-pub row-run : (fw l r w : ℕ) → l + w ≤ fw → Run fw (r * fw + l) w (onFrame l r w 1)
+pub row-run : (fw l r w : ℕ) → l + w ≤ fw → Run fw (r * fw + l) w (rectangle (origin + l) (origin + r) w 1)
 row-run fw l r w room = record {
   inside = λ i p q.
       let e : r * fw + (i - r * fw) ≡ i = omega arith in
@@ -60,20 +62,20 @@ row-run fw l r w room = record {
 }
 
 -- whole rows
-pub rows-run : (fw l t w h : ℕ) → w ≡ fw → l + w ≤ fw → Run fw (t * fw) (h * fw) (onFrame l t w h)
-rows-run fw l t w h e room = record {
+pub rows-run : (fw : ℕ) (a : FrameArea) → a .width ≡ fw → a .left + a .width ≤ fw → Run fw (a .top * fw) (a .height * fw) (onFrame a)
+rows-run fw a e room = record {
   inside = λ i p q. ⊎-elim
-      (λ (z : fw ≡ 0). let none : h * fw ≡ 0 = rw z (mul-zero h) in absurd (omega arith))
+      (λ (z : fw ≡ 0). let none : a .height * fw ≡ 0 = rw z (mul-zero (a .height)) in absurd (omega arith))
       (λ (z : 0 < fw).
-      let low : t ≤ i / fw = le-div-iff-mul-le z .1 p in
-      let high : i / fw < t + h = div-lt-iff-lt-mul z .1 (omega (arith, add-mul t h fw)) in
+      let low : a .top ≤ i / fw = le-div-iff-mul-le z .1 p in
+      let high : i / fw < a .top + a .height = div-lt-iff-lt-mul z .1 (omega (arith, add-mul (a .top) (a .height) fw)) in
       omega (arith, mod-lt i z))
       (eq-zero-or-pos fw);
   outside = λ i b.
       let z : 0 < fw = omega arith in
-      let low : t * fw ≤ i = le-div-iff-mul-le z .0 (omega arith) in
-      let high : i < (t + h) * fw = div-lt-iff-lt-mul z .0 (omega arith) in
-      omega (arith, add-mul t h fw);
+      let low : a .top * fw ≤ i = le-div-iff-mul-le z .0 (omega arith) in
+      let high : i < (a .top + a .height) * fw = div-lt-iff-lt-mul z .0 (omega arith) in
+      omega (arith, add-mul (a .top) (a .height) fw);
 }
 
 -- the pixels of a rectangle that is one run, painted and put back
@@ -88,80 +90,83 @@ paint-run fw a n m f frame run room =
     (λ i x l. within-out m f _ _ x (λ b. let o = run .outside i b in omega arith))
     (λ i x l. within-out m f _ _ x (λ b. let o = run .outside i b in omega arith))
 
--- the state of a loop over the rows of a rectangle of the frame xs: the first k of h rows are painted by f
-pub record RowsPainted (fw l t w h k : ℕ) (f : Layer) (xs frame : List ℕ) : Type 0 where
-  pub painted : frame ≡ paint fw (within (onFrame l t w k) f) xs
-  pub reach : k ≤ h
+-- the first k rows of an area, and its row k alone
+abbrev pub firstRows : FrameArea → ℕ → Rectangle
+firstRows a k = rectangle (origin + a .left) (origin + a .top) (a .width) k
+
+abbrev rowAt : FrameArea → ℕ → Rectangle
+rowAt a k = rectangle (origin + a .left) (origin + (a .top + k)) (a .width) 1
+
+-- the state of a loop over the rows of an area of the frame xs: the first k are painted by f
+pub record RowsPainted (fw : ℕ) (a : FrameArea) (k : ℕ) (f : Layer) (xs frame : List ℕ) : Type 0 where
+  pub painted : frame ≡ paint fw (within (firstRows a k) f) xs
+  pub reach : k ≤ a .height
   pub size : length frame ≡ length xs
 
-pub rows-start : (fw l t w h : ℕ) (f : Layer) (xs : List ℕ) → RowsPainted fw l t w h 0 f xs xs
-rows-start fw l t w h f xs = record {
-  painted = sym (paint-none fw (within (onFrame l t w 0) f) xs (λ c r grey. within-out (onFrame l t w 0) f c r grey (λ i. omega arith)));
+pub rows-start : (fw : ℕ) (a : FrameArea) (f : Layer) (xs : List ℕ) → RowsPainted fw a 0 f xs xs
+rows-start fw a f xs = record {
+  painted = sym (paint-none fw (within (firstRows a 0) f) xs (λ c r grey. within-out (firstRows a 0) f c r grey (λ i. omega arith)));
   reach = omega arith;
   size = refl;
 }
 
 -- k rows and the next are k + 1 rows
-rows-next : (l t w k : ℕ) (f : Layer) (c r grey : ℕ) → over (within (onFrame l (t + k) w 1) f) (within (onFrame l t w k) f) c r grey ≡ within (onFrame l t w (k + 1)) f c r grey
-rows-next l t w k f c r grey = ⊎-elim
-    (λ (i : In (onFrame l (t + k) w 1) c r).
-    within-in (onFrame l (t + k) w 1) f c r _ i ∙ ap (f c r) (within-out (onFrame l t w k) f c r grey (λ j. omega arith))
-    ∙ sym (within-in (onFrame l t w (k + 1)) f c r grey (omega arith)))
-    (λ (o : In (onFrame l (t + k) w 1) c r → ⊥). within-out (onFrame l (t + k) w 1) f c r _ o ∙ ⊎-elim
-    (λ (j : In (onFrame l t w k) c r). within-in (onFrame l t w k) f c r grey j ∙ sym (within-in (onFrame l t w (k + 1)) f c r grey (omega arith)))
-    (λ (p : In (onFrame l t w k) c r → ⊥). within-out (onFrame l t w k) f c r grey p ∙ sym (within-out (onFrame l t w (k + 1)) f c r grey
-    (λ g. let b : r ≤ origin + (t + k) = omega arith in ⊎-elim (λ e. o (omega arith)) (λ e. p (omega arith)) (eq-or-lt-of-le b))))
-    (in-or-out (onFrame l t w k) c r))
-    (in-or-out (onFrame l (t + k) w 1) c r)
+rows-next : (a : FrameArea) (k : ℕ) (f : Layer) (c r grey : ℕ) → over (within (rowAt a k) f) (within (firstRows a k) f) c r grey ≡ within (firstRows a (k + 1)) f c r grey
+rows-next a k f c r grey = ⊎-elim
+    (λ (i : In (rowAt a k) c r).
+    within-in (rowAt a k) f c r _ i ∙ ap (f c r) (within-out (firstRows a k) f c r grey (λ j. omega arith))
+    ∙ sym (within-in (firstRows a (k + 1)) f c r grey (omega arith)))
+    (λ (o : In (rowAt a k) c r → ⊥). within-out (rowAt a k) f c r _ o ∙ ⊎-elim
+    (λ (j : In (firstRows a k) c r). within-in (firstRows a k) f c r grey j ∙ sym (within-in (firstRows a (k + 1)) f c r grey (omega arith)))
+    (λ (p : In (firstRows a k) c r → ⊥). within-out (firstRows a k) f c r grey p ∙ sym (within-out (firstRows a (k + 1)) f c r grey
+    (λ g. let b : r ≤ origin + (a .top + k) = omega arith in ⊎-elim (λ e. o (omega arith)) (λ e. p (omega arith)) (eq-or-lt-of-le b))))
+    (in-or-out (firstRows a k) c r))
+    (in-or-out (rowAt a k) c r)
 
--- the rows of a rectangle up to its row j end within the frame, which is small
-pub rows-room : (fw fh n l t w h j : ℕ) → Canvas fw fh n (onFrame l t w h) → j ≤ h → ((t + j) * fw ≤ n) × (n ≤ 262144)
-rows-room fw fh n l t w h j canvas le =
-    let m : (t + j) * fw ≤ fh * fw = mul-le-mul-right fw (omega (arith, canvas .foot)) in
-    let p : fh * fw ≤ 512 * 512 = mul-le-mul (canvas .height) (canvas .width) in
-    omega (arith, canvas .size)
+-- a row of an area ends within the frame, and its index fits
+module _ (fw n : ℕ) (a : FrameArea) (k : ℕ) (room : InFrame fw n a) (less : k < a .height) where
+  pub row-room : ((a .top + k) * fw + a .left + a .width ≤ n) × (n ≤ 262144)
+  row-room =
+      let m : (a .top + (k + 1)) * fw ≤ (a .top + a .height) * fw = mul-le-mul-right fw (omega arith) in
+      omega (arith, room)
 
--- a row of a rectangle ends within the frame, and its index fits
-module _ (fw fh n l t w h k : ℕ) (canvas : Canvas fw fh n (onFrame l t w h)) (less : k < h) where
-  pub row-room : ((t + k) * fw + l + w ≤ n) × (n ≤ 262144)
-  row-room = omega (arith, rows-room fw fh n l t w h (k + 1) canvas (omega arith), canvas .right)
-
-  pub row-fits : Fits w64 ((t + k) * fw)
+  pub row-fits : Fits w64 ((a .top + k) * fw)
   row-fits = omega (arith, row-room)
 
-  pub row-start-fits : Fits w64 ((t + k) * fw + l)
+  pub row-start-fits : Fits w64 ((a .top + k) * fw + a .left)
   row-start-fits = omega (arith, row-room)
 
-  pub row-end-fits : Fits w64 ((t + k) * fw + l + w)
+  pub row-end-fits : Fits w64 ((a .top + k) * fw + a .left + a .width)
   row-end-fits = omega (arith, row-room)
 
-  pub row-end-in : (frame : List ℕ) → length frame ≡ n → (t + k) * fw + l + w ≤ length frame
+  pub row-end-in : (frame : List ℕ) → length frame ≡ n → (a .top + k) * fw + a .left + a .width ≤ length frame
   row-end-in frame e = omega (arith, row-room)
 
--- one row more, where the code lends the part of the frame from a to a + w
-pub rows-step : (fw fh l t w h k s : ℕ) (f : Layer) (g : ℕ → ℕ → ℕ) (xs frame part : List ℕ)
-    → Canvas fw fh (length xs) (onFrame l t w h) → RowsPainted fw l t w h k f xs frame → k < h
-    → part ≡ mapIndexed g s (take ((t + k) * fw + l + w - ((t + k) * fw + l)) (drop ((t + k) * fw + l) frame))
-    → ((i x : ℕ) → i < w → g (s + i) x ≡ f (origin + l + i) (origin + (t + k)) x)
-    → RowsPainted fw l t w h (k + 1) f xs (putMid ((t + k) * fw + l) ((t + k) * fw + l + w - ((t + k) * fw + l)) frame part)
-rows-step fw fh l t w h k s f g xs frame part canvas p less ep agree =
-    let a : ℕ = (t + k) * fw + l in
-    let room = row-room fw fh (length xs) l t w h k canvas less in
-    let right : l + w ≤ fw = omega (arith, canvas .right) in
-    let lw : length (take w (drop a frame)) ≡ w = length-take-le w (drop a frame) (rw length-drop (omega arith)) in
-    let same : mapIndexed g s (take w (drop a frame)) ≡ mapIndexed (λ i grey. f (origin + i % fw) (origin + i / fw) grey) a (take w (drop a frame)) =
-    mapIndexed-same g _ s a (take w (drop a frame)) (λ i x u.
-    let e : (t + k) * fw + (l + i) ≡ a + i = omega arith in
-    let d : (a + i) / fw ≡ t + k = rw e at (digits-div (t + k) {m = fw} {r = l + i} (omega arith)) in
-    let m : (a + i) % fw ≡ l + i = rw e at (digits-mod (t + k) {m = fw} {r = l + i} (omega arith)) in
-    let q : origin + (l + i) ≡ origin + l + i = omega arith in
+-- one row more, where the code lends its part of the frame
+pub rows-step : (fw : ℕ) (a : FrameArea) (k s : ℕ) (f : Layer) (g : ℕ → ℕ → ℕ) (xs frame part : List ℕ)
+    → InFrame fw (length xs) a → RowsPainted fw a k f xs frame → k < a .height
+    → part ≡ mapIndexed g s (take ((a .top + k) * fw + a .left + a .width - ((a .top + k) * fw + a .left)) (drop ((a .top + k) * fw + a .left) frame))
+    → ((i x : ℕ) → i < a .width → g (s + i) x ≡ f (origin + a .left + i) (origin + (a .top + k)) x)
+    → RowsPainted fw a (k + 1) f xs (putMid ((a .top + k) * fw + a .left) ((a .top + k) * fw + a .left + a .width - ((a .top + k) * fw + a .left)) frame part)
+rows-step fw a k s f g xs frame part in-frame p less ep agree =
+    let b : ℕ = (a .top + k) * fw + a .left in
+    let w : ℕ = a .width in
+    let room = row-room fw (length xs) a k in-frame less in
+    let right = in-frame .right in
+    let lw : length (take w (drop b frame)) ≡ w = length-take-le w (drop b frame) (rw length-drop (omega arith)) in
+    let same : mapIndexed g s (take w (drop b frame)) ≡ mapIndexed (λ i grey. f (origin + i % fw) (origin + i / fw) grey) b (take w (drop b frame)) =
+    mapIndexed-same g _ s b (take w (drop b frame)) (λ i x u.
+    let e : (a .top + k) * fw + (a .left + i) ≡ b + i = omega arith in
+    let d : (b + i) / fw ≡ a .top + k = rw e at (digits-div (a .top + k) {m = fw} {r = a .left + i} (omega arith)) in
+    let m : (b + i) % fw ≡ a .left + i = rw e at (digits-mod (a .top + k) {m = fw} {r = a .left + i} (omega arith)) in
+    let q : origin + (a .left + i) ≡ origin + a .left + i = omega arith in
     agree i x (omega arith) ∙ rw (d, m, q)) in
-    let q : putMid a (a + w - a) frame part ≡ paint fw (within (onFrame l t w (k + 1)) f) xs =
-    rw (ep, add-sub-cancel-left a w, same) (paint-run fw a w (onFrame l (t + k) w 1) f frame (row-run fw l (t + k) w right) (omega arith))
-    ∙ ap (paint fw (within (onFrame l (t + k) w 1) f)) (p .painted)
-    ∙ paint-over fw (within (onFrame l t w k) f) (within (onFrame l (t + k) w 1) f) xs
-    ∙ paint-same fw _ (within (onFrame l t w (k + 1)) f) xs (rows-next l t w k f) in
+    let q : putMid b (b + w - b) frame part ≡ paint fw (within (firstRows a (k + 1)) f) xs =
+    rw (ep, add-sub-cancel-left b w, same) (paint-run fw b w (rowAt a k) f frame (row-run fw (a .left) (a .top + k) w right) (omega arith))
+    ∙ ap (paint fw (within (rowAt a k) f)) (p .painted)
+    ∙ paint-over fw (within (firstRows a k) f) (within (rowAt a k) f) xs
+    ∙ paint-same fw _ (within (firstRows a (k + 1)) f) xs (rows-next a k f) in
     record { painted = q; reach = omega arith; size = ap length q ∙ length-paint fw _ xs }
 
-pub rows-end : (fw l t w h k : ℕ) (f : Layer) (xs frame : List ℕ) → RowsPainted fw l t w h k f xs frame → h ≤ k → frame ≡ paint fw (within (onFrame l t w h) f) xs
-rows-end fw l t w h k f xs frame p past = let e : k ≡ h = omega arith in rw e at (p .painted)
+pub rows-end : (fw : ℕ) (a : FrameArea) (k : ℕ) (f : Layer) (xs frame : List ℕ) → RowsPainted fw a k f xs frame → a .height ≤ k → frame ≡ paint fw (within (onFrame a) f) xs
+rows-end fw a k f xs frame p past = let e : k ≡ a .height = omega arith in rw e at (p .painted)

@@ -1,8 +1,9 @@
 -- Laws of rectangles: `covers` as a fact, and what joins and intersections hold. Assumes nothing.
 use Prim.Native.Nat.{ℕ, _+_, _-_, _≤_, _<_, min, max}
 use native.Mathlib.Omega.{arith}
-use mathlib.Core.Path.{_≡_, refl, _∙_}
-use mathlib.Core.Bool.{Bool, true, false, cond, _&&_, _||_}
+use mathlib.Core.Path.{_≡_, refl, sym, _∙_}
+use mathlib.Core.Bool.{Bool, true, false, cond, true≢false, and-eq-true-iff}
+use mathlib.Mathlib.Data.Bool.Basic.{or-eq-false-eq-eq-false-and-eq-false}
 use mathlib.Core.List.{List, [], _∷_}
 use mathlib.Core.Logic.{_⊎_, inl, inr}
 use lib.Dec.{eqb}
@@ -17,21 +18,13 @@ pub record In (a : Rectangle) (c r : ℕ) : Type 0 where
   pub past-top : a .top ≤ r
   pub before-foot : r < a .top + a .height
 
-pub and-true : (a b : Bool) → (a && b) ≡ true → (a ≡ true) × (b ≡ true)
-and-true true b h = (refl, h)
-and-true false b h = (h, cc)
-
-or-false : (a b : Bool) → (a || b) ≡ false → (a ≡ false) × (b ≡ false)
-or-false true b h = (h, cc)
-or-false false b h = (refl, h)
-
 module _ (a : Rectangle) (c r : ℕ) where
   pub covers-in : covers a c r ≡ true → In a c r
   unfolding covers
   covers-in h =
-      let p = and-true _ _ h in
-      let q = and-true _ _ (p .0) in
-      let o = and-true _ _ (q .0) in
+      let p = and-eq-true-iff _ _ .0 h in
+      let q = and-eq-true-iff _ _ .0 (p .0) in
+      let o = and-eq-true-iff _ _ .0 (q .0) in
       record { past-left = leb-true _ _ (o .0); before-right = ltb-true _ _ (o .1); past-top = leb-true _ _ (q .1); before-foot = ltb-true _ _ (p .1) }
 
   pub in-covers : In a c r → covers a c r ≡ true
@@ -46,7 +39,7 @@ module _ (a : Rectangle) (c r : ℕ) where
       go false e = refl
 
   pub covers-out : covers a c r ≡ false → In a c r → ⊥
-  covers-out e h = let p = in-covers h in let z : _≡_ {A = ℕ} 0 1 = cc in omega arith
+  covers-out e h = true≢false (sym (in-covers h) ∙ e)
 
   -- a place is in a rectangle, or it is not
   pub in-or-out : In a c r ⊎ (In a c r → ⊥)
@@ -62,12 +55,12 @@ module _ (a : Rectangle) (c r : ℕ) where
 
 -- no place is in an empty rectangle
 pub empty-out : (a : Rectangle) (empty : Bool) → empty ≡ isEmpty a → empty ≡ true → (c r : ℕ) → In a c r → ⊥
-empty-out a empty is-empty holds c r i = let n = in-not-empty a c r i in let z : _≡_ {A = ℕ} 0 1 = cc in omega arith
+empty-out a empty is-empty holds c r i = true≢false (sym holds ∙ is-empty ∙ in-not-empty a c r i)
 
 pub not-empty : (a : Rectangle) → isEmpty a ≡ false → (0 < a .width) × (0 < a .height)
 unfolding isEmpty
 not-empty a h =
-    let n = or-false (eqb (a .width) 0) (eqb (a .height) 0) h in
+    let n = or-eq-false-eq-eq-false-and-eq-false (eqb (a .width) 0) (eqb (a .height) 0) .0 h in
     omega (arith, eqb-false (a .width) 0 (n .0), eqb-false (a .height) 0 (n .1))
 
 -- a place in either of two rectangles is in their join
@@ -141,6 +134,16 @@ module _ (a b : Rectangle) (t : Bool) (et : t ≡ isEmpty b) where
     unfolding join
     join-neither-empty r k q = rw (← et, h, ← eu, k) q
 
+-- what holds of two rectangles and of their envelope holds of their join
+pub join-cases : (P : Rectangle → Type 0) (a b : Rectangle) → P a → P b → P (envelope a b) → P (join a b)
+unfolding join
+join-cases P a b pa pb pe = go (isEmpty b) (isEmpty a)
+  where
+    go : (t u : Bool) → P (cond t a (cond u b (envelope a b)))
+    go true u = pa
+    go false true = pb
+    go false false = pe
+
 -- what is made of two rectangles whose ends fit has ends that fit
 module _ (a b : Rectangle) (fa : EndsFit a) (fb : EndsFit b) where
   pub ends-fit-envelope : EndsFit (envelope a b)
@@ -148,10 +151,4 @@ module _ (a b : Rectangle) (fa : EndsFit a) (fb : EndsFit b) where
   ends-fit-envelope = omega (arith, fa, fb)
 
   pub ends-fit-join : EndsFit (join a b)
-  unfolding join
-  ends-fit-join = go (isEmpty b) (isEmpty a)
-    where
-      go : (t u : Bool) → EndsFit (cond t a (cond u b (envelope a b)))
-      go true u = fa
-      go false true = fb
-      go false false = ends-fit-envelope
+  ends-fit-join = join-cases EndsFit a b fa fb ends-fit-envelope

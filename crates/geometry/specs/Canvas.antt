@@ -1,20 +1,44 @@
--- What the painters require of a frame and of a rectangle on it. Assumes nothing.
-use Prim.Native.Nat.{ℕ, _+_, _*_, _≤_}
+-- The frame as a draw target, the rectangles on it, and what the painters require of both. Assumes nothing.
+-- Serves contracts: nothing here has to be believed.
+use Prim.Native.Nat.{ℕ, _+_, _-_, _*_, _≤_}
 use mathlib.Core.Path.{_≡_}
+use mathlib.Core.List.{List}
 use Rattle.geometry.specs.declared.Rectangle.{Rectangle}
+use Rattle.geometry.specs.declared.DrawTarget.{DrawTarget}
+use Rattle.geometry.specs.declared.FrameArea.{FrameArea}
 use Rattle.geometry.specs.Rectangle.{rectangle}
-use Rattle.geometry.specs.Layer.{origin}
+use Rattle.geometry.specs.Layer.{origin, Layer, paintIn}
 
 -- the rectangle at a column and a row counted from the frame's corner
-abbrev pub onFrame : ℕ → ℕ → ℕ → ℕ → Rectangle
-onFrame l t w h = rectangle (origin + l) (origin + t) w h
+abbrev pub onFrame : FrameArea → Rectangle
+onFrame a = rectangle (origin + a .left) (origin + a .top) (a .width) (a .height)
 
--- a frame of fh rows of fw pixels, n in all, with sides of at most 512, and a rectangle that lies in it
-pub record Canvas (fw fh n : ℕ) (clip : Rectangle) : Type 0 where
-  pub size : fh * fw ≡ n
-  pub width : fw ≤ 512
-  pub height : fh ≤ 512
-  pub left : origin ≤ clip .left
-  pub right : clip .left + clip .width ≤ origin + fw
-  pub top : origin ≤ clip .top
-  pub foot : clip .top + clip .height ≤ origin + fh
+-- a rectangle with its column and row counted from there
+abbrev pub fromCorner : Rectangle → FrameArea
+fromCorner a = record { left = a .left - origin; top = a .top - origin; width = a .width; height = a .height }
+
+-- a layer painted on a draw target: in its area only
+abbrev pub paintOn : DrawTarget → Layer → List ℕ → List ℕ
+paintOn t f frame = paintIn (t .width) (t .«clip_area») f frame
+
+-- a draw target of n greys: sides of at most 512, and an area that lies in it
+pub record Canvas (t : DrawTarget) (n : ℕ) : Type 0 where
+  pub size : t .height * t .width ≡ n
+  pub width : t .width ≤ 512
+  pub height : t .height ≤ 512
+  pub left : origin ≤ t .«clip_area» .left
+  pub right : t .«clip_area» .left + t .«clip_area» .width ≤ origin + t .width
+  pub top : origin ≤ t .«clip_area» .top
+  pub foot : t .«clip_area» .top + t .«clip_area» .height ≤ origin + t .height
+
+-- a rectangle that starts neither left of the frame nor above it
+pub record StartsOnFrame (a : Rectangle) : Type 0 where
+  pub left : origin ≤ a .left
+  pub top : origin ≤ a .top
+
+-- a rectangle that lies in a frame fw wide, of n greys
+pub record InFrame (fw n : ℕ) (a : FrameArea) : Type 0 where
+  pub right : a .left + a .width ≤ fw
+  pub foot : (a .top + a .height) * fw ≤ n
+  pub low : a .top + a .height ≤ 512
+  pub small : n ≤ 262_144

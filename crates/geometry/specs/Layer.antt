@@ -1,4 +1,5 @@
 -- The frame as a list of greys by row, and layers: what a drawing makes of each pixel's grey. Assumes nothing.
+-- To be believed: it says what a sheet means.
 use Prim.Native.Nat.{ℕ, suc, _+_, _/_, _%_}
 use mathlib.Core.Bool.{cond}
 use mathlib.Core.List.{List, [], _∷_}

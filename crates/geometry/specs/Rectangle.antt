@@ -1,4 +1,5 @@
--- Rectangles: what one covers, and how two make one (document 01, Geometry). Assumes nothing.
+-- Rectangles: what one covers, and how two make one (docs/SHEET.md, Geometry). Assumes nothing.
+-- To be believed: it says what a sheet means.
 use Prim.Native.Nat.{ℕ, _+_, _-_, _^_, _<_, min, max}
 use mathlib.Core.Bool.{Bool, cond, _&&_, _||_}
 use mathlib.Core.List.{List, [], _∷_}

@@ -1,14 +1,15 @@
+// Points, rectangles, and the frame as a draw target that is filled.
 // Coordinates are counted from a point 2^21 columns left of and 2^21 rows above the frame's corner, so that each is a natural
 // number.
 use numbers::greatest;
 use numbers::least;
 use numbers::minus;
 ghost use mathlib.Core.Path.{_≡_};
-ghost use Prim.Native.Nat.{_+_, _-_, _<_, min, max};
+ghost use Prim.Native.Nat.{_+_, _-_, min, max};
 ghost use lib.ListN.{length, replicate};
-ghost use Rattle.geometry.specs.Rectangle.{EndsFit, covers, isEmpty, envelope, join, intersection};
-ghost use Rattle.geometry.specs.Layer.{paint, paintIn, filled};
-ghost use Rattle.geometry.specs.Canvas.{Canvas, onFrame};
+ghost use Rattle.geometry.specs.Rectangle.{EndsFit, isEmpty, envelope, join, intersection};
+ghost use Rattle.geometry.specs.Layer.{paint, filled};
+ghost use Rattle.geometry.specs.Canvas.{Canvas, StartsOnFrame, InFrame, fromCorner, onFrame, paintOn};
 
 pub mod numbers;
 
@@ -27,12 +28,28 @@ pub struct Size {
     pub height: u32,
 }
 
-// A rectangle by its corner and its extent, as document 01 names them.
+// A rectangle by its corner and its extent, as docs/SHEET.md names them (Geometry).
 pub struct Rectangle {
     pub left: u32,
     pub top: u32,
     pub width: u32,
     pub height: u32,
+}
+
+// The frame as a draw target: its sides, and the area in which its pixels may change. Its greys are lent beside it.
+// embedded-graphics' `DrawTarget`, clipped.
+pub struct DrawTarget {
+    pub width: usize,
+    pub height: usize,
+    pub clip_area: Rectangle,
+}
+
+// A rectangle of the frame, its column and row counted from the frame's corner.
+pub struct FrameArea {
+    pub left: usize,
+    pub top: usize,
+    pub width: usize,
+    pub height: usize,
 }
 
 // A colour that may be left unset: embedded-graphics' `Option` of a colour, for 8-bit grey.
@@ -42,27 +59,6 @@ pub enum OptionalGrey {
 }
 
 impl Rectangle {
-    // Whether the rectangle covers a pixel.
-    pub fn contains(self, column: u32, row: u32) -> bool
-        ensures { λ r. ⌜ r ≡ covers self column row ⌝ }
-    {
-        let left = self.left;
-        let top = self.top;
-        if column < left {
-            return false;
-        }
-        if self.width <= column - left {
-            return false;
-        }
-        if row < top {
-            return false;
-        }
-        if self.height <= row - top {
-            return false;
-        }
-        true
-    }
-
     // Whether the rectangle covers no pixel.
     pub fn is_empty(self) -> bool
         ensures { λ r. ⌜ r ≡ isEmpty self ⌝ }
@@ -121,6 +117,19 @@ impl Rectangle {
             height,
         }
     }
+
+    // The rectangle with its column and row counted from the frame's corner.
+    pub fn on_frame(self) -> FrameArea
+        requires { ⌜ StartsOnFrame self ⌝ }
+        ensures { λ r. ⌜ r ≡ fromCorner self ⌝ }
+    {
+        FrameArea {
+            left: (self.left - ORIGIN) as usize,
+            top: (self.top - ORIGIN) as usize,
+            width: self.width as usize,
+            height: self.height as usize,
+        }
+    }
 }
 
 // How many of the n numbers from a on are among the m from b on.
@@ -144,92 +153,57 @@ pub fn fill_row(row: &mut [u8], grey: u8)
     }
 }
 
-// Fills a rectangle of the frame, row by row; its columns and rows are counted from the frame's corner.
-fn fill_rows(
-    frame: &mut [u8],
-    fw: usize,
-    fh: usize,
-    left: usize,
-    top: usize,
-    width: usize,
-    height: usize,
-    grey: u8,
-)
-    requires { ⌜ Canvas fw fh (length (now frame)) (onFrame left top width height) ⌝ }
-    ensures { λ _. ⌜ now (frame .exit) ≡ paint fw (filled (onFrame left top width height) (OptionalGrey.Set grey)) (now (frame .entry)) ⌝ }
+// Fills a rectangle of a frame fw wide, row by row.
+fn fill_rows(frame: &mut [u8], fw: usize, area: FrameArea, grey: u8)
+    requires { ⌜ InFrame fw (length (now frame)) area ⌝ }
+    ensures { λ _. ⌜ now (frame .exit) ≡ paint fw (filled (onFrame area) (OptionalGrey.Set grey)) (now (frame .entry)) ⌝ }
 {
     let mut k: usize = 0;
-    while k < height {
-        let a = (top + k) * fw + left;
-        let b = a + width;
+    while k < area.height {
+        let a = (area.top + k) * fw + area.left;
+        let b = a + area.width;
         fill_row(&mut frame[a..b], grey);
         k += 1;
     }
 }
 
 // The same: rows as wide as the frame are filled as one.
-fn fill_box(
-    frame: &mut [u8],
-    fw: usize,
-    fh: usize,
-    left: usize,
-    top: usize,
-    width: usize,
-    height: usize,
-    grey: u8,
-)
-    requires { ⌜ Canvas fw fh (length (now frame)) (onFrame left top width height) ⌝ }
-    ensures { λ _. ⌜ now (frame .exit) ≡ paint fw (filled (onFrame left top width height) (OptionalGrey.Set grey)) (now (frame .entry)) ⌝ }
+fn fill_area(frame: &mut [u8], fw: usize, area: FrameArea, grey: u8)
+    requires { ⌜ InFrame fw (length (now frame)) area ⌝ }
+    ensures { λ _. ⌜ now (frame .exit) ≡ paint fw (filled (onFrame area) (OptionalGrey.Set grey)) (now (frame .entry)) ⌝ }
 {
-    if width == fw {
-        let a = top * fw;
-        let b = a + height * fw;
+    if area.width == fw {
+        let a = area.top * fw;
+        let b = a + area.height * fw;
         fill_row(&mut frame[a..b], grey);
         return;
     }
-    fill_rows(frame, fw, fh, left, top, width, height, grey);
+    fill_rows(frame, fw, area, grey);
 }
 
-// Fills what the area and the clip share.
-pub fn fill_solid(
-    frame: &mut [u8],
-    fw: usize,
-    fh: usize,
-    clip: Rectangle,
-    area: Rectangle,
-    grey: u8,
-)
-    requires { ⌜ Canvas fw fh (length (now frame)) clip ⌝ }
-    ensures { λ _. ⌜ now (frame .exit) ≡ paintIn fw clip (filled area (OptionalGrey.Set grey)) (now (frame .entry)) ⌝ }
+// Fills what a draw target shows of an area.
+pub fn fill_solid(frame: &mut [u8], target: DrawTarget, area: Rectangle, grey: u8)
+    requires { ⌜ Canvas target (length (now frame)) ⌝ }
+    ensures { λ _. ⌜ now (frame .exit) ≡ paintOn target (filled area (OptionalGrey.Set grey)) (now (frame .entry)) ⌝ }
 {
     if area.is_empty() {
         return;
     }
-    let shown = clip.intersection(area);
+    let shown = target.clip_area.intersection(area);
     if shown.is_empty() {
         return;
     }
-    let left = (shown.left - ORIGIN) as usize;
-    let top = (shown.top - ORIGIN) as usize;
-    let width = shown.width as usize;
-    let height = shown.height as usize;
-    fill_box(frame, fw, fh, left, top, width, height, grey);
+    let part = shown.on_frame();
+    fill_area(frame, target.width, part, grey);
 }
 
 // The same with a colour that may be unset: then nothing is filled.
-pub fn fill(
-    frame: &mut [u8],
-    fw: usize,
-    fh: usize,
-    clip: Rectangle,
-    area: Rectangle,
-    color: OptionalGrey,
-)
-    requires { ⌜ Canvas fw fh (length (now frame)) clip ⌝ }
-    ensures { λ _. ⌜ now (frame .exit) ≡ paintIn fw clip (filled area color) (now (frame .entry)) ⌝ }
+pub fn fill(frame: &mut [u8], target: DrawTarget, area: Rectangle, color: OptionalGrey)
+    requires { ⌜ Canvas target (length (now frame)) ⌝ }
+    ensures { λ _. ⌜ now (frame .exit) ≡ paintOn target (filled area color) (now (frame .entry)) ⌝ }
 {
     match color {
         OptionalGrey::Unset => {}
-        OptionalGrey::Set(grey) => fill_solid(frame, fw, fh, clip, area, grey),
+        OptionalGrey::Set(grey) => fill_solid(frame, target, area, grey),
     }
 }

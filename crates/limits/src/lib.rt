@@ -1,30 +1,68 @@
-// Document 01's limits, on numbers: each test of a record's fields, with its refusal.
+// The limits of a sheet (docs/SHEET.md, Sheet), on numbers: each test of a record's fields, with its refusal.
 ghost use mathlib.Core.Path.{_≡_};
 ghost use Rattle.limits.specs.Limits.{headerRefusal, fontLimits, goodModes, itemLimits};
 
+// The header's fields that refusals 1 to 4 test, and the file's length.
+pub struct HeaderFields {
+    pub file_length: usize,
+    pub whole_length: usize,
+    pub zero: usize,
+    pub edition: usize,
+    pub width: u32,
+    pub height: u32,
+    pub fonts: u32,
+    pub items: u32,
+}
+
+// The fields of a font that refusal 6 tests.
+pub struct FontFields {
+    pub cw: u8,
+    pub ch: u8,
+    pub spacing: u8,
+    pub atlas_width: usize,
+    pub zero: usize,
+}
+
+// The fields of an item that refusal 9 tests.
+pub struct ItemFields {
+    pub slot_size: usize,
+    pub text_length: usize,
+    pub font: u32,
+    pub text_mode: u8,
+    pub background_mode: u8,
+    pub underline_mode: u8,
+    pub strikethrough_mode: u8,
+    pub alignment: u8,
+    pub baseline: u8,
+    pub height_kind: u8,
+    pub height_value: usize,
+    pub zero: usize,
+}
+
 // Refusals 1 to 4.
-pub fn header_refusal(
-    len: usize,
-    whole: usize,
-    spare: usize,
-    edition: usize,
-    width: u32,
-    height: u32,
-    fonts: u32,
-    items: u32,
-) -> u32
-    ensures { λ r. ⌜ r ≡ headerRefusal len whole spare edition width height fonts items ⌝ }
+pub fn header_refusal(header: HeaderFields) -> u32
+    ensures { λ r. ⌜ r ≡ headerRefusal header ⌝ }
 {
-    if len < 24 {
+    let HeaderFields {
+        file_length,
+        whole_length,
+        zero,
+        edition,
+        width,
+        height,
+        fonts,
+        items,
+    } = header;
+    if file_length < 24 {
         return 1;
     }
-    if 65536 < len {
+    if 65536 < file_length {
         return 1;
     }
-    if whole != len {
+    if whole_length != file_length {
         return 1;
     }
-    if spare != 0 {
+    if zero != 0 {
         return 1;
     }
     if edition != 1 {
@@ -55,9 +93,16 @@ pub fn header_refusal(
 }
 
 // Refusal 6.
-pub fn font_limits(cw: u8, ch: u8, spacing: u8, width: usize, spare: usize) -> u32
-    ensures { λ r. ⌜ r ≡ fontLimits cw ch spacing width spare ⌝ }
+pub fn font_limits(font: FontFields) -> u32
+    ensures { λ r. ⌜ r ≡ fontLimits font ⌝ }
 {
+    let FontFields {
+        cw,
+        ch,
+        spacing,
+        atlas_width,
+        zero,
+    } = font;
     if 64 < cw {
         return 6;
     }
@@ -67,10 +112,10 @@ pub fn font_limits(cw: u8, ch: u8, spacing: u8, width: usize, spare: usize) -> u
     if 64 < spacing {
         return 6;
     }
-    if 1024 < width {
+    if 1024 < atlas_width {
         return 6;
     }
-    if spare != 0 {
+    if zero != 0 {
         return 6;
     }
     0
@@ -92,34 +137,39 @@ pub fn good_modes(text: u8, background: u8, underline: u8, strikethrough: u8) ->
     strikethrough <= 2
 }
 
-// Refusal 9, but for the slot's tail.
-pub fn item_limits(
-    slot: usize,
-    len: usize,
-    font: u32,
-    fonts: u32,
-    text: u8,
-    background: u8,
-    underline: u8,
-    strikethrough: u8,
-    alignment: u8,
-    baseline: u8,
-    kind: u8,
-    value: usize,
-    spare: usize,
-) -> u32
-    ensures { λ r. ⌜ r ≡ itemLimits slot len font fonts text background underline strikethrough alignment baseline kind value spare ⌝ }
+// Refusal 9 of an item in a sheet of `fonts` fonts, but for the slot's tail.
+pub fn item_limits(item: ItemFields, fonts: u32) -> u32
+    ensures { λ r. ⌜ r ≡ itemLimits item fonts ⌝ }
 {
-    if 256 < slot {
+    let ItemFields {
+        slot_size,
+        text_length,
+        font,
+        text_mode,
+        background_mode,
+        underline_mode,
+        strikethrough_mode,
+        alignment,
+        baseline,
+        height_kind,
+        height_value,
+        zero,
+    } = item;
+    if 256 < slot_size {
         return 9;
     }
-    if slot < len {
+    if slot_size < text_length {
         return 9;
     }
     if fonts <= font {
         return 9;
     }
-    if !good_modes(text, background, underline, strikethrough) {
+    if !good_modes(
+        text_mode,
+        background_mode,
+        underline_mode,
+        strikethrough_mode,
+    ) {
         return 9;
     }
     if 2 < alignment {
@@ -128,13 +178,13 @@ pub fn item_limits(
     if 3 < baseline {
         return 9;
     }
-    if 1 < kind {
+    if 1 < height_kind {
         return 9;
     }
-    if 1000 < value {
+    if 1000 < height_value {
         return 9;
     }
-    if spare != 0 {
+    if zero != 0 {
         return 9;
     }
     0

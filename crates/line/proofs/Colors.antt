@@ -2,7 +2,8 @@
 use Prim.Native.Nat.{ℕ, _+_}
 use native.Mathlib.Omega.{arith}
 use mathlib.Core.Path.{_≡_, refl, _∙_}
-use mathlib.Core.Bool.{Bool, true, false, _||_}
+use mathlib.Core.Bool.{Bool, true, false, true≢false}
+use mathlib.Mathlib.Data.Bool.Basic.{or-eq-false-eq-eq-false-and-eq-false}
 use mathlib.Core.List.{List, [], _∷_}
 use mathlib.Core.Logic.{_⊎_, inl, inr}
 use denote.Enum.Declared.{tagOf}
@@ -42,18 +43,14 @@ module _ (s : MonoTextStyle) (t : Bool) (e : t ≡ isSet (textColor s)) where
 
 unset : (color : OptionalGrey) → isSet color ≡ false → color ≡ Unset
 unset Unset e = refl
-unset (Set g) e = absurd (let z : _≡_ {A = ℕ} 0 1 = cc in omega arith)
-
-or-false : (t u : Bool) → (t || u) ≡ false → (t ≡ false) × (u ≡ false)
-or-false true u e = (e, cc)
-or-false false u e = (refl, e)
+unset (Set g) e = absurd (true≢false e)
 
 -- with neither grey set glyphs and gaps paint nothing
 module _ (f : Font) (s : MonoTextStyle) (top c r : ℕ) (e : isPainted s ≡ false) where
   character-unset : (gap i x grey : ℕ) → character f s gap i x top c r grey ≡ grey
   unfolding character isPainted filled
   character-unset gap i x grey =
-      let n = or-false (isSet (textColor s)) (isSet (backgroundColor s)) e in
+      let n = or-eq-false-eq-eq-false-and-eq-false (isSet (textColor s)) (isSet (backgroundColor s)) .0 e in
       rw (unset (textColor s) (n .0), unset (backgroundColor s) (n .1), glyph-unset (f .atlas) (f .mono .atlas) i (x + gap) top c r _)
       (within-none (rectangle x top gap (characterHeight (f .mono))) (λ c r grey. grey) (λ c r grey. refl) c r grey)
 

@@ -4,8 +4,9 @@ use native.Mathlib.Omega.{arith}
 use mathlib.Core.Path.{_≡_, refl, sym, ap, _∙_}
 use mathlib.Core.List.{List, map}
 use lib.ListN.{length}
-use Rattle.geometry.specs.declared.Rectangle.{Rectangle}
-use Rattle.geometry.specs.Layer.{transparent, within, paintIn}
+use Rattle.geometry.specs.declared.DrawTarget.{DrawTarget}
+use Rattle.geometry.specs.Layer.{transparent}
+use Rattle.geometry.specs.Canvas.{paintOn}
 use Rattle.geometry.proofs.Layers.{length-paint, within-none, paint-none}
 use Rattle.characters.specs.declared.Cursor.{Cursor}
 use Rattle.characters.specs.declared.Step.{Step}
@@ -20,10 +21,10 @@ use Rattle.line.specs.Limits.{FontLimits}
 use Rattle.line.proofs.Advances.{walked, walked-spaced, walked-end, walked-next}
 use Rattle.line.proofs.Painting.{paint-then}
 
-module _ (fw : ℕ) (clip : Rectangle) (f : Font) (s : MonoTextStyle) (text : List ℕ) (left top : ℕ) (frame₀ : List ℕ) where
+module _ (t : DrawTarget) (f : Font) (s : MonoTextStyle) (text : List ℕ) (left top : ℕ) (frame₀ : List ℕ) where
   -- a frame with the glyphs from a position of the text on
   abbrev rest : ℕ → ℕ → ℕ → List ℕ → List ℕ
-  rest gap at x frame = paintIn fw clip (glyphs f s gap (map (glyphIndex f) (charsFrom text at)) x top) frame
+  rest gap at x frame = paintOn t (glyphs f s gap (map (glyphIndex f) (charsFrom text at)) x top) frame
 
   -- the state of the walk at a position: the glyphs before it are drawn, and the next one follows x after `gap`
   pub record Drawn (gap at x : ℕ) (frame : List ℕ) : Type 0 where
@@ -45,24 +46,24 @@ module _ (fw : ℕ) (clip : Rectangle) (f : Font) (s : MonoTextStyle) (text : Li
   }
 
   module _ (gap at x : ℕ) (frame : List ℕ) (d : Drawn gap at x frame) (step : Step) (e : step ≡ stepAt text at) where
-    pub drawn-step : (ch : ℕ) (c : Cursor) (next : List ℕ) → FontLimits (f .mono) → step ≡ Character ch c → next ≡ paintIn fw clip (character f s gap (glyphIndex f ch) x top) frame
+    pub drawn-step : (ch : ℕ) (c : Cursor) (next : List ℕ) → FontLimits (f .mono) → step ≡ Character ch c → next ≡ paintOn t (character f s gap (glyphIndex f ch) x top) frame
         → Drawn (spacing (f .mono)) (c .at) (x + gap + characterWidth (f .mono)) next
     unfolding glyphs
     drawn-step ch c next limits q p =
         let a = step-advances text at e q in
         let l = chars-character text at e q in
         record {
-          whole = paint-then fw clip _ _ frame next _ p refl ∙ sym (rw l) ∙ d .whole;
+          whole = paint-then t _ _ frame next _ p refl ∙ sym (rw l) ∙ d .whole;
           end = sym (walked-next (f .mono) gap ch (charsFrom text (c .at)) x) ∙ (rw l at (d .end));
           reach = a .within;
           near = omega arith;
           gap-small = limits .spacing-small;
-          size = ap length p ∙ length-paint fw _ frame ∙ d .size;
+          size = ap length p ∙ length-paint (t .width) _ frame ∙ d .size;
         }
 
     pub drawn-end : Stopped step → frame ≡ rest 0 0 left frame₀
     unfolding glyphs
-    drawn-end t = sym (paint-none fw _ frame (within-none clip transparent (λ c r grey. refl))) ∙ sym (rw (chars-stopped text at e t)) ∙ d .whole
+    drawn-end stopped = sym (paint-none (t .width) _ frame (within-none (t .«clip_area») transparent (λ c r grey. refl))) ∙ sym (rw (chars-stopped text at e stopped)) ∙ d .whole
 
 -- the walk ends where the characters end
 pub walked-stopped : (m : MonoFont) (text : List ℕ) (gap at x end : ℕ) (step : Step) → step ≡ stepAt text at → Stopped step → walked m gap (charsFrom text at) x ≡ end → x ≡ end

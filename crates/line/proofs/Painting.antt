@@ -1,13 +1,15 @@
--- Layers painted in a clip: one after another, and one that the clip does not show. Assumes nothing.
+-- Layers painted on a draw target: one after another, and one that the target does not show. Assumes nothing.
 use Prim.Native.Nat.{ℕ, _+_, _-_, _≤_, _<_}
 use native.Mathlib.Omega.{arith}
 use mathlib.Core.Path.{_≡_, sym, ap, _∙_}
-use mathlib.Core.Bool.{Bool, true, false}
+use mathlib.Core.Bool.{true, false, true≢false}
 use mathlib.Core.List.{List}
 use mathlib.Core.Logic.{⊎-elim}
 use borrow.Author.Tests.{lt-leb}
 use Rattle.geometry.specs.declared.Rectangle.{Rectangle}
-use Rattle.geometry.specs.Layer.{Layer, over, within, paintIn}
+use Rattle.geometry.specs.declared.DrawTarget.{DrawTarget}
+use Rattle.geometry.specs.Layer.{Layer, over, within}
+use Rattle.geometry.specs.Canvas.{paintOn}
 use Rattle.geometry.proofs.Rectangles.{In, in-or-out}
 use Rattle.geometry.proofs.Layers.{within-in, within-out, paint-over, paint-none, paint-same}
 use Rattle.line.specs.Clip.{disjoint}
@@ -18,10 +20,10 @@ within-over a f g c r grey = ⊎-elim
     (λ o. within-out a g c r _ o ∙ within-out a f c r grey o ∙ sym (within-out a (over g f) c r grey o))
     (in-or-out a c r)
 
--- one layer painted in a clip, then another
-pub paint-then : (fw : ℕ) (clip : Rectangle) (f g : Layer) (xs ys zs : List ℕ) → ys ≡ paintIn fw clip f xs → zs ≡ paintIn fw clip g ys → zs ≡ paintIn fw clip (over g f) xs
-paint-then fw clip f g xs ys zs p q =
-    q ∙ ap (paintIn fw clip g) p ∙ paint-over fw (within clip f) (within clip g) xs ∙ paint-same fw _ (within clip (over g f)) xs (within-over clip f g)
+-- one layer painted on a draw target, then another
+pub paint-then : (t : DrawTarget) (f g : Layer) (xs ys zs : List ℕ) → ys ≡ paintOn t f xs → zs ≡ paintOn t g ys → zs ≡ paintOn t (over g f) xs
+paint-then t f g xs ys zs p q =
+    q ∙ ap (paintOn t g) p ∙ paint-over (t .width) _ _ xs ∙ paint-same (t .width) _ (within (t .«clip_area») (over g f)) xs (within-over (t .«clip_area») f g)
 
 -- a layer changes nothing outside an area
 abbrev pub Inside : Rectangle → Layer → Type 0
@@ -31,24 +33,21 @@ Inside area f = (c r grey : ℕ) → (In area c r → ⊥) → f c r grey ≡ gr
 abbrev pub Disjoint : Rectangle → Rectangle → Type 0
 Disjoint clip area = (c r : ℕ) → In clip c r → In area c r → ⊥
 
--- such a layer changes nothing of the frame in a clip that shares no pixel with the area
-pub paint-disjoint : (fw : ℕ) (clip area : Rectangle) (f : Layer) (xs : List ℕ) → Inside area f → Disjoint clip area → xs ≡ paintIn fw clip f xs
-paint-disjoint fw clip area f xs inside none-shared = sym (paint-none fw (within clip f) xs (λ c r grey. ⊎-elim
-    (λ i. within-in clip f c r grey i ∙ inside c r grey (none-shared c r i))
-    (λ o. within-out clip f c r grey o)
-    (in-or-out clip c r)))
+-- such a layer changes nothing on a draw target that shares no pixel with the area
+pub paint-disjoint : (t : DrawTarget) (area : Rectangle) (f : Layer) (xs : List ℕ) → Inside area f → Disjoint (t .«clip_area») area → xs ≡ paintOn t f xs
+paint-disjoint t area f xs inside none-shared = sym (paint-none (t .width) _ xs (λ c r grey. ⊎-elim
+    (λ i. within-in (t .«clip_area») f c r grey i ∙ inside c r grey (none-shared c r i))
+    (λ o. within-out (t .«clip_area») f c r grey o)
+    (in-or-out (t .«clip_area») c r)))
 
 disjoint-false : (a n b m k : ℕ) → a ≤ k → k < a + n → b ≤ k → k < b + m → disjoint a n b m ≡ false
 unfolding disjoint
 disjoint-false a n b m k p q u v = rw (lt-leb n (b - a) (omega arith), lt-leb m (a - b) (omega arith))
 
-true-false : (t : Bool) → t ≡ true → t ≡ false → ⊥
-true-false t p q = let z : _≡_ {A = ℕ} 0 1 = cc in omega arith
-
 -- rectangles that share no column, or no row
 module _ (clip area : Rectangle) where
   pub columns-disjoint : disjoint (area .left) (area .width) (clip .left) (clip .width) ≡ true → Disjoint clip area
-  columns-disjoint e c r i j = true-false _ e (disjoint-false _ _ _ _ c (j .past-left) (j .before-right) (i .past-left) (i .before-right))
+  columns-disjoint e c r i j = true≢false (sym e ∙ disjoint-false _ _ _ _ c (j .past-left) (j .before-right) (i .past-left) (i .before-right))
 
   pub rows-disjoint : disjoint (area .top) (area .height) (clip .top) (clip .height) ≡ true → Disjoint clip area
-  rows-disjoint e c r i j = true-false _ e (disjoint-false _ _ _ _ r (j .past-top) (j .before-foot) (i .past-top) (i .before-foot))
+  rows-disjoint e c r i j = true≢false (sym e ∙ disjoint-false _ _ _ _ r (j .past-top) (j .before-foot) (i .past-top) (i .before-foot))

@@ -2,60 +2,62 @@
 use Prim.Native.Nat.{ℕ, _+_, _-_, _*_}
 use native.Mathlib.Omega.{arith}
 use mathlib.Core.Path.{_≡_, refl, sym, _∙_}
-use mathlib.Core.Bool.{Bool, true, false, cond}
-use mathlib.Core.List.{List, map}
+use mathlib.Core.Bool.{Bool, true, false, cond, false≢true}
+use mathlib.Core.List.{List}
 use lib.ListN.{length}
 use Rattle.geometry.specs.declared.Rectangle.{Rectangle}
+use Rattle.geometry.specs.declared.DrawTarget.{DrawTarget}
 use Rattle.geometry.specs.declared.OptionalGrey.{OptionalGrey}
 use Rattle.geometry.specs.Rectangle.{rectangle}
-use Rattle.geometry.specs.Layer.{filled, paintIn}
+use Rattle.geometry.specs.Layer.{filled}
+use Rattle.geometry.specs.Canvas.{paintOn}
 use Rattle.geometry.proofs.Layers.{within-none, paint-none}
 use Rattle.characters.specs.Utf8.{chars}
 use Rattle.atlas.specs.Atlas.{glyph}
 use Rattle.line.specs.declared.MonoFont.{MonoFont}
 use Rattle.line.specs.declared.MonoTextStyle.{MonoTextStyle}
-use Rattle.line.specs.Line.{Font, characterWidth, characterHeight, spacing, textColor, backgroundColor, isPainted, toColor, character, glyphs, spaced, advance, decoration, decorations, glyphIndex, string, whitespace}
+use Rattle.line.specs.Line.{Font, characterWidth, characterHeight, spacing, textColor, backgroundColor, isPainted, toColor, character, glyphs, spaced, advance, decoration, decorations, lineGlyphs, string, whitespace}
 use Rattle.line.specs.Clip.{disjoint, showsGlyphs}
 use Rattle.line.proofs.Colors.{glyphs-unset}
 use Rattle.line.proofs.Painting.{paint-then, paint-disjoint, columns-disjoint, rows-disjoint}
 use Rattle.line.proofs.Ink.{character-out, glyphs-out}
 
-module _ (fw : ℕ) (clip : Rectangle) (f : Font) (s : MonoTextStyle) (gap i x top : ℕ) (xs : List ℕ) where
-  -- a character whose columns the clip does not show
-  pub character-unshown : (t : Bool) → t ≡ disjoint x (gap + characterWidth (f .mono)) (clip .left) (clip .width) → t ≡ true → xs ≡ paintIn fw clip (character f s gap i x top) xs
-  character-unshown t e h =
+module _ (t : DrawTarget) (f : Font) (s : MonoTextStyle) (gap i x top : ℕ) (xs : List ℕ) where
+  -- a character whose columns the target does not show
+  pub character-unshown : (out : Bool) → out ≡ disjoint x (gap + characterWidth (f .mono)) (t .«clip_area» .left) (t .«clip_area» .width) → out ≡ true → xs ≡ paintOn t (character f s gap i x top) xs
+  character-unshown out e h =
       let area = rectangle x top (gap + characterWidth (f .mono)) (characterHeight (f .mono)) in
-      paint-disjoint fw clip area (character f s gap i x top) xs (λ c r grey o. character-out c r f s gap i x top grey o) (columns-disjoint clip area (sym e ∙ h))
+      paint-disjoint t area (character f s gap i x top) xs (λ c r grey o. character-out c r f s gap i x top grey o) (columns-disjoint (t .«clip_area») area (sym e ∙ h))
 
-  pub character-painted : (j : ℕ) (ys zs : List ℕ) → j ≡ i → ys ≡ paintIn fw clip (filled (rectangle x top gap (characterHeight (f .mono))) (backgroundColor s)) xs
-      → zs ≡ paintIn fw clip (glyph (f .atlas) (f .mono .atlas) (textColor s) (backgroundColor s) j (x + gap) top) ys → zs ≡ paintIn fw clip (character f s gap i x top) xs
+  pub character-painted : (j : ℕ) (ys zs : List ℕ) → j ≡ i → ys ≡ paintOn t (filled (rectangle x top gap (characterHeight (f .mono))) (backgroundColor s)) xs
+      → zs ≡ paintOn t (glyph (f .atlas) (f .mono .atlas) (textColor s) (backgroundColor s) j (x + gap) top) ys → zs ≡ paintOn t (character f s gap i x top) xs
   unfolding character
-  character-painted j ys zs e p q = rw (← e) (paint-then fw clip _ _ xs ys zs p q)
+  character-painted j ys zs e p q = rw (← e) (paint-then t _ _ xs ys zs p q)
 
-module _ (fw : ℕ) (clip : Rectangle) (m : MonoFont) (s : MonoTextStyle) (width x top : ℕ) (xs ys zs : List ℕ) where
+module _ (t : DrawTarget) (m : MonoFont) (s : MonoTextStyle) (width x top : ℕ) (xs ys zs : List ℕ) where
   pub decorations-painted : (first second : OptionalGrey) → first ≡ toColor s (s .«strikethrough_color») → second ≡ toColor s (s .«underline_color»)
-      → ys ≡ paintIn fw clip (decoration (m .strikethrough) first width x top) xs → zs ≡ paintIn fw clip (decoration (m .underline) second width x top) ys
-      → zs ≡ paintIn fw clip (decorations m s width x top) xs
+      → ys ≡ paintOn t (decoration (m .strikethrough) first width x top) xs → zs ≡ paintOn t (decoration (m .underline) second width x top) ys
+      → zs ≡ paintOn t (decorations m s width x top) xs
   unfolding decorations
-  decorations-painted first second e d p q = rw (← e, ← d) (paint-then fw clip _ _ xs ys zs p q)
+  decorations-painted first second e d p q = rw (← e, ← d) (paint-then t _ _ xs ys zs p q)
 
-  pub whitespace-painted : ys ≡ paintIn fw clip (filled (rectangle x top width (characterHeight m)) (backgroundColor s)) xs → zs ≡ paintIn fw clip (decorations m s width x top) ys
-      → zs ≡ paintIn fw clip (whitespace m s width x top) xs
+  pub whitespace-painted : ys ≡ paintOn t (filled (rectangle x top width (characterHeight m)) (backgroundColor s)) xs → zs ≡ paintOn t (decorations m s width x top) ys
+      → zs ≡ paintOn t (whitespace m s width x top) xs
   unfolding whitespace
-  whitespace-painted p q = paint-then fw clip _ _ xs ys zs p q
+  whitespace-painted p q = paint-then t _ _ xs ys zs p q
 
--- glyphs that the clip does not show, or that take no grey
-module _ (fw : ℕ) (clip : Rectangle) (f : Font) (s : MonoTextStyle) (is : List ℕ) (x top : ℕ) (xs : List ℕ) where
-  pub glyphs-unshown : (t : Bool) → t ≡ showsGlyphs clip (f .mono) s top → t ≡ false → xs ≡ paintIn fw clip (glyphs f s 0 is x top) xs
+-- glyphs that the target does not show, or that take no grey
+module _ (t : DrawTarget) (f : Font) (s : MonoTextStyle) (is : List ℕ) (x top : ℕ) (xs : List ℕ) where
+  pub glyphs-unshown : (shows : Bool) → shows ≡ showsGlyphs (t .«clip_area») (f .mono) s top → shows ≡ false → xs ≡ paintOn t (glyphs f s 0 is x top) xs
   unfolding showsGlyphs
-  glyphs-unshown t e h = go (disjoint top (characterHeight (f .mono)) (clip .top) (clip .height)) refl (sym e ∙ h)
+  glyphs-unshown shows e h = go (disjoint top (characterHeight (f .mono)) (t .«clip_area» .top) (t .«clip_area» .height)) refl (sym e ∙ h)
     where
       area : Rectangle
       area = rectangle x top (0 + spaced (f .mono) (length is)) (characterHeight (f .mono))
 
-      go : (d : Bool) → disjoint top (characterHeight (f .mono)) (clip .top) (clip .height) ≡ d → cond d false (isPainted s) ≡ false → xs ≡ paintIn fw clip (glyphs f s 0 is x top) xs
-      go true q n = paint-disjoint fw clip area (glyphs f s 0 is x top) xs (λ c r grey o. glyphs-out c r f s 0 is x top grey o) (rows-disjoint clip area q)
-      go false q n = sym (paint-none fw _ xs (within-none clip (glyphs f s 0 is x top) (λ c r grey. glyphs-unset f s top c r n 0 is x grey)))
+      go : (d : Bool) → disjoint top (characterHeight (f .mono)) (t .«clip_area» .top) (t .«clip_area» .height) ≡ d → cond d false (isPainted s) ≡ false → xs ≡ paintOn t (glyphs f s 0 is x top) xs
+      go true q n = paint-disjoint t area (glyphs f s 0 is x top) xs (λ c r grey o. glyphs-out c r f s 0 is x top grey o) (rows-disjoint (t .«clip_area») area q)
+      go false q n = sym (paint-none (t .width) _ xs (within-none (t .«clip_area») (glyphs f s 0 is x top) (λ c r grey. glyphs-unset f s top c r n 0 is x grey)))
 
 -- where the clip shows them the advance has no spacing after the last character
 pub advance-shown : (clip : Rectangle) (m : MonoFont) (s : MonoTextStyle) (n x top r : ℕ) (t : Bool) → t ≡ showsGlyphs clip m s top → t ≡ true → r ≡ x + spaced m n → r ≡ x + advance m s n
@@ -63,14 +65,14 @@ unfolding showsGlyphs advance
 advance-shown clip m s n x top r t e h d = go (disjoint top (characterHeight m) (clip .top) (clip .height)) (isPainted s) (sym e ∙ h)
   where
     go : (u v : Bool) → cond u false v ≡ true → r ≡ x + cond v (spaced m n) (n * (characterWidth m + spacing m))
-    go true v q = absurd (let z : _≡_ {A = ℕ} 0 1 = cc in omega arith)
+    go true v q = absurd (false≢true q)
     go false true q = d
-    go false false q = absurd (let z : _≡_ {A = ℕ} 0 1 = cc in omega arith)
+    go false false q = absurd (false≢true q)
 
-pub string-painted : (fw : ℕ) (clip : Rectangle) (f : Font) (s : MonoTextStyle) (text : List ℕ) (x top next : ℕ) (xs ys zs : List ℕ) → next ≡ x + advance (f .mono) s (length (chars text))
-    → ys ≡ paintIn fw clip (glyphs f s 0 (map (glyphIndex f) (chars text)) x top) xs → zs ≡ paintIn fw clip (decorations (f .mono) s (next - x) x top) ys
-    → zs ≡ paintIn fw clip (string f s text x top) xs
+pub string-painted : (t : DrawTarget) (f : Font) (s : MonoTextStyle) (text : List ℕ) (x top next : ℕ) (xs ys zs : List ℕ) → next ≡ x + advance (f .mono) s (length (chars text))
+    → ys ≡ paintOn t (lineGlyphs f s text x top) xs → zs ≡ paintOn t (decorations (f .mono) s (next - x) x top) ys
+    → zs ≡ paintOn t (string f s text x top) xs
 unfolding string
-string-painted fw clip f s text x top next xs ys zs e p q =
+string-painted t f s text x top next xs ys zs e p q =
     let w : next - x ≡ advance (f .mono) s (length (chars text)) = omega arith in
-    rw (← w) (paint-then fw clip _ _ xs ys zs p q)
+    rw (← w) (paint-then t _ _ xs ys zs p q)

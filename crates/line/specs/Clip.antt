@@ -1,4 +1,5 @@
 -- What a clip shows of a line, as its functions test it before they look at characters or pixels. Assumes nothing.
+-- Serves contracts: nothing here has to be believed.
 use Prim.Native.Nat.{ℕ, _-_}
 use mathlib.Core.Bool.{Bool, false, cond, _||_}
 use lib.Dec.{leb}

@@ -1,11 +1,18 @@
 -- Limits under which no sum of a line's drawing is too large: what its functions require, and what an accepted sheet gives.
 -- Assumes nothing.
+-- Serves contracts: nothing here has to be believed.
 use Prim.Native.Nat.{ℕ, _≤_}
+use mathlib.Core.Path.{_≡_}
+use mathlib.Core.List.{List}
+use lib.ListN.{length}
+use Rattle.mapping.specs.Entries.{entryAt, WithinLimit}
+use Rattle.atlas.specs.Row.{CellsOf}
 use Rattle.line.specs.declared.DecorationDimensions.{DecorationDimensions}
 use Rattle.line.specs.declared.MonoFont.{MonoFont}
+use Rattle.line.specs.declared.LineStyle.{LineStyle}
 use Rattle.line.specs.Line.{characterWidth, characterHeight, spacing}
 
--- a font's numbers: document 01's limits, and 255 for what is stored in a byte
+-- a font's numbers: the limits of docs/SHEET.md, Sheet, and 255 for what is stored in a byte
 pub record FontLimits (m : MonoFont) : Type 0 where
   pub atlas-narrow : m .atlas .width ≤ 1_024
   pub cw-small : characterWidth m ≤ 64
@@ -16,6 +23,13 @@ pub record FontLimits (m : MonoFont) : Type 0 where
   pub strikethrough-low : m .strikethrough .height ≤ 255
   pub underline-near : m .underline .offset ≤ 255
   pub underline-low : m .underline .height ≤ 255
+
+-- what glyphs are drawn with, made of the bytes of the font's atlas and of its mapping
+pub record LineStyleOf (atlas mapping : List ℕ) (s : LineStyle) : Type 0 where
+  pub limits : FontLimits (s .font)
+  pub mapping-limit : WithinLimit mapping
+  pub cells : CellsOf (s .font .atlas) (length atlas) (s .cells)
+  pub first : s .first ≡ entryAt mapping 0
 
 -- n bytes of text
 pub record LengthLimit (n : ℕ) : Type 0 where

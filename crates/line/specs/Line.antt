@@ -1,5 +1,6 @@
--- One line of text: its glyphs and gaps, its decorations, its advance, its measured box and its ink box (document 01, One line).
+-- One line of text: its glyphs and gaps, its decorations, its advance, its measured box and its ink box (docs/SHEET.md, One line).
 -- Assumes nothing.
+-- To be believed: it says what a sheet means.
 use Prim.Native.Nat.{ℕ, zero, suc, _+_, _-_, _*_, _/_, max}
 use mathlib.Core.Bool.{Bool, true, false, cond, _||_}
 use mathlib.Core.List.{List, [], _∷_, map}
@@ -29,7 +30,7 @@ pub record Font : Type 0 where
 abbrev pub fontOf : MonoFont → List ℕ → List ℕ → Font
 fontOf m atlas mapping = record { mono = m; atlas = atlas; mapping = mapping }
 
--- ---- the drawn metrics: document 01's cw, ch and s
+-- ---- the drawn metrics: cw, ch and s
 
 abbrev pub characterWidth : MonoFont → ℕ
 characterWidth m = cellWidth (m .atlas)
@@ -113,11 +114,15 @@ decorations m s width x top =
 abbrev pub glyphIndex : Font → ℕ → ℕ
 glyphIndex f ch = Mapping.index (f .mapping) (f .mono .«replacement_index») ch
 
+-- the glyphs of a text from x on
+abbrev pub lineGlyphs : Font → MonoTextStyle → List ℕ → ℕ → ℕ → Layer
+lineGlyphs f s text x top = glyphs f s 0 (map (glyphIndex f) (chars text)) x top
+
 -- `draw_string`: the text's glyphs from x on, with their top edge at `top`, then its decorations
 unfoldable pub string : Font → MonoTextStyle → List ℕ → ℕ → ℕ → Layer
 string f s text x top =
     over (decorations (f .mono) s (advance (f .mono) s (length (chars text))) x top)
-    (glyphs f s 0 (map (glyphIndex f) (chars text)) x top)
+    (lineGlyphs f s text x top)
 
 -- `draw_whitespace`: "background v by ch if set, decorations, advance v"
 unfoldable pub whitespace : MonoFont → MonoTextStyle → ℕ → ℕ → ℕ → Layer
@@ -143,7 +148,7 @@ measuredHeight m s = cond (isNone (s .«underline_color»)) (characterHeight m) 
 unfoldable pub measuredBox : MonoFont → MonoTextStyle → ℕ → ℕ → ℕ → Rectangle
 measuredBox m s n x top = rectangle x top (measuredWidth m n) (measuredHeight m s)
 
--- ---- document 01's ink box of a line (Drawing and edits)
+-- ---- the ink box of a line (docs/SHEET.md, Drawing and edits)
 
 -- "max(ch, each decoration's offset + height)"
 unfoldable pub inkHeight : MonoFont → ℕ

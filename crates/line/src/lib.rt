@@ -1,30 +1,31 @@
 // One line of text: its colours, its decorations and its drawing.
 use atlas::Atlas;
 use atlas::Cells;
+use atlas::GlyphColors;
 use characters::Cursor;
 use characters::Step;
+use geometry::DrawTarget;
 use geometry::OptionalGrey;
+use geometry::Point;
 use geometry::Rectangle;
 use geometry::numbers::minus;
 use mapping::Entry;
 pub use measuring::advance;
 pub use measuring::baseline_offset;
 pub use measuring::ink_box;
+pub use measuring::ink_height;
 use measuring::is_painted;
 pub use measuring::measure_string;
 pub use measuring::measured_width;
 ghost use mathlib.Core.Path.{_≡_};
-ghost use mathlib.Core.List.{map};
 ghost use Prim.Native.Nat.{_+_};
 ghost use lib.ListN.{length};
-ghost use Rattle.geometry.specs.Layer.{paintIn};
-ghost use Rattle.geometry.specs.Canvas.{Canvas};
+ghost use Rattle.geometry.specs.Canvas.{Canvas, paintOn};
 ghost use Rattle.characters.specs.Utf8.{chars};
-ghost use Rattle.mapping.specs.Entries.{entryAt, WithinLimit};
-ghost use Rattle.atlas.specs.Row.{CellsOf};
-ghost use Rattle.line.specs.Line.{fontOf, toColor, character, glyphs, spaced, advance, decoration, decorations, glyphIndex, string, whitespace};
+ghost use Rattle.mapping.specs.Entries.{WithinLimit};
+ghost use Rattle.line.specs.Line.{fontOf, toColor, character, lineGlyphs, spaced, advance, decoration, decorations, glyphIndex, string, whitespace};
 ghost use Rattle.line.specs.Clip.{disjoint, showsGlyphs};
-ghost use Rattle.line.specs.Limits.{FontLimits, PlaceLimits, CharacterLimits, DecorationLimits, TopLimit};
+ghost use Rattle.line.specs.Limits.{FontLimits, LineStyleOf, PlaceLimits, CharacterLimits, DecorationLimits, TopLimit};
 
 mod measuring;
 
@@ -42,6 +43,15 @@ pub struct MonoFont {
     pub baseline: u32,
     pub strikethrough: DecorationDimensions,
     pub underline: DecorationDimensions,
+}
+
+// What the glyphs of a line are drawn with: its colours and its font, how the font's atlas holds the glyphs, and the first entry
+// of the font's mapping.
+struct LineStyle {
+    colors: MonoTextStyle,
+    font: MonoFont,
+    cells: Cells,
+    first: Entry,
 }
 
 // The colour of a decoration.
@@ -98,281 +108,209 @@ fn shows_glyphs(clip: Rectangle, font: MonoFont, style: MonoTextStyle, top: u32)
     is_painted(style)
 }
 
-// Draws a gap in the background's grey and the glyph of a character after it; one that the clip does not show is not looked up.
+// Draws a gap from `corner` on in the background's grey and the glyph of a character after it; one that the target does not
+// show is not looked up.
 fn draw_character(
     frame: &mut [u8],
-    fw: usize,
-    fh: usize,
-    clip: Rectangle,
+    target: DrawTarget,
     atlas: &[u8],
     mapping: &[u8],
-    cells: Cells,
-    first: Entry,
-    font: MonoFont,
-    style: MonoTextStyle,
+    style: LineStyle,
+    corner: Point,
     gap: u32,
     ch: u32,
-    x: u32,
-    top: u32,
 )
-    requires { ⌜ Canvas fw fh (length (now frame)) clip ⌝ }
-    requires { ⌜ FontLimits font ⌝ }
-    requires { ⌜ WithinLimit (now mapping) ⌝ }
-    requires { ⌜ CellsOf (font .atlas) (length (now atlas)) cells ⌝ }
-    requires { ⌜ first ≡ entryAt (now mapping) 0 ⌝ }
-    requires { ⌜ CharacterLimits gap x ⌝ }
-    ensures { λ _. ⌜ now (frame .exit) ≡ paintIn fw clip (character (fontOf font (now (atlas .entry)) (now (mapping .entry))) style gap (glyphIndex (fontOf font (now (atlas .entry)) (now (mapping .entry))) ch) x top) (now (frame .entry)) ⌝ }
+    requires { ⌜ Canvas target (length (now frame)) ⌝ }
+    requires { ⌜ LineStyleOf (now atlas) (now mapping) style ⌝ }
+    requires { ⌜ CharacterLimits gap (corner .x) ⌝ }
+    ensures { λ _. ⌜ now (frame .exit) ≡ paintOn target (character (fontOf (style .font) (now (atlas .entry)) (now (mapping .entry))) (style .colors) gap (glyphIndex (fontOf (style .font) (now (atlas .entry)) (now (mapping .entry))) ch) (corner .x) (corner .y)) (now (frame .entry)) ⌝ }
 {
+    let font = style.font;
     let image = font.atlas;
-    let height = image.cell_size.height;
+    let clip = target.clip_area;
     let width = gap + image.cell_size.width;
-    if disjoint(x, width, clip.left, clip.width) {
+    if disjoint(corner.x, width, clip.left, clip.width) {
         return;
     }
     let area = Rectangle {
-        left: x,
-        top,
+        left: corner.x,
+        top: corner.y,
         width: gap,
-        height,
+        height: image.cell_size.height,
     };
-    let text = style.text_color;
-    let background = style.background_color;
-    geometry::fill(frame, fw, fh, clip, area, background);
+    let colors = style.colors;
+    let text = colors.text_color;
+    let background = colors.background_color;
+    geometry::fill(frame, target, area, background);
+    let first = style.first;
     let index = mapping::index_with(mapping, first, font.replacement_index, ch);
-    let left = x + gap;
-    atlas::draw_glyph(
-        frame,
-        fw,
-        fh,
-        clip,
-        atlas,
-        image,
-        cells,
-        text,
-        background,
-        index,
-        left,
-        top,
-    );
+    let cells = style.cells;
+    let greys = GlyphColors { text, background };
+    let x = corner.x + gap;
+    let at = Point { x, y: corner.y };
+    atlas::draw_glyph(frame, target, atlas, image, cells, greys, index, at);
 }
 
-// Draws the glyphs of a line from `left` on, and the gaps between them; gives where they end.
+// Draws the glyphs of a line from `corner` on, and the gaps between them; gives where they end.
 fn draw_glyphs(
     frame: &mut [u8],
-    fw: usize,
-    fh: usize,
-    clip: Rectangle,
+    target: DrawTarget,
     atlas: &[u8],
     mapping: &[u8],
-    cells: Cells,
-    first: Entry,
     text: &[u8],
-    font: MonoFont,
-    style: MonoTextStyle,
-    left: u32,
-    top: u32,
+    style: LineStyle,
+    corner: Point,
 ) -> u32
-    requires { ⌜ Canvas fw fh (length (now frame)) clip ⌝ }
-    requires { ⌜ FontLimits font ⌝ }
-    requires { ⌜ WithinLimit (now mapping) ⌝ }
-    requires { ⌜ CellsOf (font .atlas) (length (now atlas)) cells ⌝ }
-    requires { ⌜ first ≡ entryAt (now mapping) 0 ⌝ }
-    requires { ⌜ PlaceLimits (length (now text)) left top ⌝ }
-    ensures { λ _. ⌜ now (frame .exit) ≡ paintIn fw clip (glyphs (fontOf font (now (atlas .entry)) (now (mapping .entry))) style 0 (map (glyphIndex (fontOf font (now (atlas .entry)) (now (mapping .entry)))) (chars (now (text .entry)))) left top) (now (frame .entry)) ⌝ }
-    ensures { λ r. ⌜ r ≡ left + spaced font (length (chars (now (text .entry)))) ⌝ }
+    requires { ⌜ Canvas target (length (now frame)) ⌝ }
+    requires { ⌜ LineStyleOf (now atlas) (now mapping) style ⌝ }
+    requires { ⌜ PlaceLimits (length (now text)) (corner .x) (corner .y) ⌝ }
+    ensures { λ _. ⌜ now (frame .exit) ≡ paintOn target (lineGlyphs (fontOf (style .font) (now (atlas .entry)) (now (mapping .entry))) (style .colors) (now (text .entry)) (corner .x) (corner .y)) (now (frame .entry)) ⌝ }
+    ensures { λ r. ⌜ r ≡ corner .x + spaced (style .font) (length (chars (now (text .entry)))) ⌝ }
 {
+    let font = style.font;
     let width = font.atlas.cell_size.width;
     let spacing = font.character_spacing;
     let mut c = Cursor { at: 0 };
-    let mut x = left;
+    let mut x = corner.x;
     let mut gap: u32 = 0;
     loop {
         let Step::Character(ch, after) = characters::next(text, c) else {
             return x;
         };
-        draw_character(
-            frame,
-            fw,
-            fh,
-            clip,
-            atlas,
-            mapping,
-            cells,
-            first,
-            font,
-            style,
-            gap,
-            ch,
-            x,
-            top,
-        );
+        let at = Point { x, y: corner.y };
+        draw_character(frame, target, atlas, mapping, style, at, gap, ch);
         x = x + gap + width;
         gap = spacing;
         c = after;
     }
 }
 
-// Draws the characters of a line, if the clip shows them; gives the next x.
+// Draws the characters of a line, if the target shows them; gives the next x.
 fn draw_characters(
     frame: &mut [u8],
-    fw: usize,
-    fh: usize,
-    clip: Rectangle,
+    target: DrawTarget,
     atlas: &[u8],
     mapping: &[u8],
     text: &[u8],
     font: MonoFont,
     style: MonoTextStyle,
-    x: u32,
-    top: u32,
+    corner: Point,
 ) -> u32
-    requires { ⌜ Canvas fw fh (length (now frame)) clip ⌝ }
+    requires { ⌜ Canvas target (length (now frame)) ⌝ }
     requires { ⌜ FontLimits font ⌝ }
     requires { ⌜ WithinLimit (now mapping) ⌝ }
-    requires { ⌜ PlaceLimits (length (now text)) x top ⌝ }
-    ensures { λ _. ⌜ now (frame .exit) ≡ paintIn fw clip (glyphs (fontOf font (now (atlas .entry)) (now (mapping .entry))) style 0 (map (glyphIndex (fontOf font (now (atlas .entry)) (now (mapping .entry)))) (chars (now (text .entry)))) x top) (now (frame .entry)) ⌝ }
-    ensures { λ r. ⌜ r ≡ x + advance font style (length (chars (now (text .entry)))) ⌝ }
+    requires { ⌜ PlaceLimits (length (now text)) (corner .x) (corner .y) ⌝ }
+    ensures { λ _. ⌜ now (frame .exit) ≡ paintOn target (lineGlyphs (fontOf font (now (atlas .entry)) (now (mapping .entry))) style (now (text .entry)) (corner .x) (corner .y)) (now (frame .entry)) ⌝ }
+    ensures { λ r. ⌜ r ≡ corner .x + advance font style (length (chars (now (text .entry)))) ⌝ }
 {
-    if shows_glyphs(clip, font, style, top) {
+    let clip = target.clip_area;
+    if shows_glyphs(clip, font, style, corner.y) {
         let image = font.atlas;
-        let cells = atlas::cells_of(atlas.len(), image);
-        let first = mapping::first_entry(mapping);
-        return draw_glyphs(
-            frame,
-            fw,
-            fh,
-            clip,
-            atlas,
-            mapping,
-            cells,
-            first,
-            text,
+        let prepared = LineStyle {
+            colors: style,
             font,
-            style,
-            x,
-            top,
-        );
+            cells: atlas::cells_of(atlas.len(), image),
+            first: mapping::first_entry(mapping),
+        };
+        return draw_glyphs(frame, target, atlas, mapping, text, prepared, corner);
     }
-    x + advance(text, font, style)
+    corner.x + advance(text, font, style)
 }
 
-// Draws a decoration of a line with its top edge at `top`.
+// Draws a decoration of a line, as wide as the line is long.
 fn draw_decoration(
     frame: &mut [u8],
-    fw: usize,
-    fh: usize,
-    clip: Rectangle,
+    target: DrawTarget,
     dimensions: DecorationDimensions,
     color: OptionalGrey,
+    corner: Point,
     width: u32,
-    x: u32,
-    top: u32,
 )
-    requires { ⌜ Canvas fw fh (length (now frame)) clip ⌝ }
-    requires { ⌜ DecorationLimits dimensions top ⌝ }
-    ensures { λ _. ⌜ now (frame .exit) ≡ paintIn fw clip (decoration dimensions color width x top) (now (frame .entry)) ⌝ }
+    requires { ⌜ Canvas target (length (now frame)) ⌝ }
+    requires { ⌜ DecorationLimits dimensions (corner .y) ⌝ }
+    ensures { λ _. ⌜ now (frame .exit) ≡ paintOn target (decoration dimensions color width (corner .x) (corner .y)) (now (frame .entry)) ⌝ }
 {
+    let top = corner.y + dimensions.offset;
     let area = Rectangle {
-        left: x,
-        top: top + dimensions.offset,
+        left: corner.x,
+        top,
         width,
         height: dimensions.height,
     };
-    geometry::fill(frame, fw, fh, clip, area, color);
+    geometry::fill(frame, target, area, color);
 }
 
-// Draws the strikethrough, then the underline, of a line with its top edge at `top`.
+// Draws the strikethrough, then the underline, of a line from `corner` on.
 fn draw_decorations(
     frame: &mut [u8],
-    fw: usize,
-    fh: usize,
-    clip: Rectangle,
+    target: DrawTarget,
     font: MonoFont,
     style: MonoTextStyle,
+    corner: Point,
     width: u32,
-    x: u32,
-    top: u32,
 )
-    requires { ⌜ Canvas fw fh (length (now frame)) clip ⌝ }
+    requires { ⌜ Canvas target (length (now frame)) ⌝ }
     requires { ⌜ FontLimits font ⌝ }
-    requires { ⌜ TopLimit top ⌝ }
-    ensures { λ _. ⌜ now (frame .exit) ≡ paintIn fw clip (decorations font style width x top) (now (frame .entry)) ⌝ }
+    requires { ⌜ TopLimit (corner .y) ⌝ }
+    ensures { λ _. ⌜ now (frame .exit) ≡ paintOn target (decorations font style width (corner .x) (corner .y)) (now (frame .entry)) ⌝ }
 {
     let strikethrough = font.strikethrough;
     let underline = font.underline;
     let strikethrough_color = style.strikethrough_color;
     let underline_color = style.underline_color;
     let first = to_color(style, strikethrough_color);
-    draw_decoration(frame, fw, fh, clip, strikethrough, first, width, x, top);
+    draw_decoration(frame, target, strikethrough, first, corner, width);
     let second = to_color(style, underline_color);
-    draw_decoration(frame, fw, fh, clip, underline, second, width, x, top);
+    draw_decoration(frame, target, underline, second, corner, width);
 }
 
-// Draws a line of text from x on, with its top edge at `top`; gives the next x.
+// Draws a line of text from `corner` on: its start and its top edge; gives the next x.
 pub fn draw_string(
     frame: &mut [u8],
-    fw: usize,
-    fh: usize,
-    clip: Rectangle,
+    target: DrawTarget,
     atlas: &[u8],
     mapping: &[u8],
     text: &[u8],
     font: MonoFont,
     style: MonoTextStyle,
-    x: u32,
-    top: u32,
+    corner: Point,
 ) -> u32
-    requires { ⌜ Canvas fw fh (length (now frame)) clip ⌝ }
+    requires { ⌜ Canvas target (length (now frame)) ⌝ }
     requires { ⌜ FontLimits font ⌝ }
     requires { ⌜ WithinLimit (now mapping) ⌝ }
-    requires { ⌜ PlaceLimits (length (now text)) x top ⌝ }
-    ensures { λ _. ⌜ now (frame .exit) ≡ paintIn fw clip (string (fontOf font (now (atlas .entry)) (now (mapping .entry))) style (now (text .entry)) x top) (now (frame .entry)) ⌝ }
-    ensures { λ r. ⌜ r ≡ x + advance font style (length (chars (now (text .entry)))) ⌝ }
+    requires { ⌜ PlaceLimits (length (now text)) (corner .x) (corner .y) ⌝ }
+    ensures { λ _. ⌜ now (frame .exit) ≡ paintOn target (string (fontOf font (now (atlas .entry)) (now (mapping .entry))) style (now (text .entry)) (corner .x) (corner .y)) (now (frame .entry)) ⌝ }
+    ensures { λ r. ⌜ r ≡ corner .x + advance font style (length (chars (now (text .entry)))) ⌝ }
 {
-    let next = draw_characters(
-        frame,
-        fw,
-        fh,
-        clip,
-        atlas,
-        mapping,
-        text,
-        font,
-        style,
-        x,
-        top,
-    );
-    let width = next - x;
-    draw_decorations(frame, fw, fh, clip, font, style, width, x, top);
+    let next = draw_characters(frame, target, atlas, mapping, text, font, style, corner);
+    let width = next - corner.x;
+    draw_decorations(frame, target, font, style, corner, width);
     next
 }
 
-// Draws whitespace from x on, with its top edge at `top`; gives the next x.
+// Draws whitespace of a width from `corner` on; gives the next x.
 pub fn draw_whitespace(
     frame: &mut [u8],
-    fw: usize,
-    fh: usize,
-    clip: Rectangle,
+    target: DrawTarget,
     font: MonoFont,
     style: MonoTextStyle,
+    corner: Point,
     width: u32,
-    x: u32,
-    top: u32,
 ) -> u32
-    requires { ⌜ Canvas fw fh (length (now frame)) clip ⌝ }
+    requires { ⌜ Canvas target (length (now frame)) ⌝ }
     requires { ⌜ FontLimits font ⌝ }
-    requires { ⌜ PlaceLimits width x top ⌝ }
-    ensures { λ _. ⌜ now (frame .exit) ≡ paintIn fw clip (whitespace font style width x top) (now (frame .entry)) ⌝ }
-    ensures { λ r. ⌜ r ≡ x + width ⌝ }
+    requires { ⌜ PlaceLimits width (corner .x) (corner .y) ⌝ }
+    ensures { λ _. ⌜ now (frame .exit) ≡ paintOn target (whitespace font style width (corner .x) (corner .y)) (now (frame .entry)) ⌝ }
+    ensures { λ r. ⌜ r ≡ corner .x + width ⌝ }
 {
     let area = Rectangle {
-        left: x,
-        top,
+        left: corner.x,
+        top: corner.y,
         width,
         height: font.atlas.cell_size.height,
     };
     let background = style.background_color;
-    geometry::fill(frame, fw, fh, clip, area, background);
-    draw_decorations(frame, fw, fh, clip, font, style, width, x, top);
-    x + width
+    geometry::fill(frame, target, area, background);
+    draw_decorations(frame, target, font, style, corner, width);
+    corner.x + width
 }

@@ -117,7 +117,7 @@ pub fn measure_string(
 }
 
 // How high the ink box of a line is.
-fn ink_height(font: MonoFont) -> u32
+pub fn ink_height(font: MonoFont) -> u32
     requires { ⌜ FontLimits font ⌝ }
     ensures { λ r. ⌜ r ≡ inkHeight font ⌝ }
 {

@@ -19,7 +19,7 @@ use Rattle.mapping.proofs.Entry.{the-type as entry-type}
 use Rattle.mapping.specs.declared.Entry.{Entry}
 use Rattle.mapping.specs.declared.Entry.the-variants as entry
 use Rattle.mapping.specs.Entries.{entryAt, entryOf, startOf, endOf, stopOf, stopRefusal}
-use Rattle.mapping.specs.Mapping.{scalarsFrom, range, spelled}
+use Rattle.mapping.specs.Mapping.{scalarsFrom, fromTo, spelled}
 
 -- ---- `stop`, `stop_refusal` and `entry_at`: a law for each way out, where x, y and z are the steps one after another
 
@@ -99,7 +99,7 @@ pub record Ranges (s : List ℕ) (at start end : ℕ) (c : Cursor) : Type 0 wher
   pub within : c .at ≤ length s
   pub end-in-range : end ≤ 0x10FFFF
   pub well-formed : wellFormedFrom s at ≡ wellFormedFrom s (c .at)
-  pub spells : spelled (charsFrom s at) ≡ range start end ++ spelled (charsFrom s (c .at))
+  pub spells : spelled (charsFrom s at) ≡ fromTo start end ++ spelled (charsFrom s (c .at))
 
 -- no range: the list stops
 pub record Stops (s : List ℕ) (at : ℕ) (w : Bool) : Type 0 where
@@ -111,11 +111,11 @@ Says s at (entry.Range start end c) = Ranges s at start end c
 Says s at entry.IllFormed = Stops s at false
 Says s at entry.End = Stops s at true
 
-spelled-single : (ch : ℕ) (rest : List ℕ) → isSurrogate (suc ch) ≡ false → spelled (suc ch ∷ rest) ≡ range (suc ch) (suc ch) ++ spelled rest
+spelled-single : (ch : ℕ) (rest : List ℕ) → isSurrogate (suc ch) ≡ false → spelled (suc ch ∷ rest) ≡ fromTo (suc ch) (suc ch) ++ spelled rest
 unfolding spelled scalarsFrom
 spelled-single ch rest p = let e : suc (suc ch) - suc ch ≡ 1 = omega arith in rw (e, p)
 
-spelled-range : (start end : ℕ) (rest : List ℕ) → spelled (0 ∷ start ∷ end ∷ rest) ≡ range start end ++ spelled rest
+spelled-range : (start end : ℕ) (rest : List ℕ) → spelled (0 ∷ start ∷ end ∷ rest) ≡ fromTo start end ++ spelled rest
 unfolding spelled
 spelled-range start end rest = refl
 

@@ -15,7 +15,7 @@ use Rattle.characters.proofs.Folds.{chars-scalar}
 use Rattle.mapping.specs.declared.Found.{Found}
 use Rattle.mapping.specs.declared.Found.the-variants.{At, Nothing}
 use Rattle.mapping.specs.Entries.{WithinLimit}
-use Rattle.mapping.specs.Mapping.{scalarsFrom, range, spelled, listOf, placeFrom, placeOr, isFound, index, contains, refusal}
+use Rattle.mapping.specs.Mapping.{scalarsFrom, fromTo, spelled, listOf, placeFrom, placeOr, isFound, index, contains, refusal}
 use Rattle.mapping.proofs.Places.{place-below}
 
 -- ---- no surrogate and no number above 10FFFF is listed
@@ -42,7 +42,7 @@ module _ {ch : ℕ} where
       ⊎-elim
       (scalars-scalar (suc end - start) start (omega arith))
       (spelled-scalar rest (λ y n. all y (List·Memᴰ·tail (List·Memᴰ·tail (List·Memᴰ·tail n)))))
-      (List·Memᴰ·append-cases (range start end) m)
+      (List·Memᴰ·append-cases (fromTo start end) m)
 
   pub listed-scalar : (mapping : List ℕ) → List·Memᴰ ch (listOf mapping) → IsScalar ch
   listed-scalar mapping = spelled-scalar _ (λ x m. chars-scalar mapping 0 m)
@@ -84,6 +84,10 @@ accepted mapping e = by (wellFormed mapping) (leb (length (listOf mapping)) 65_5
   where
     by : (w l : Bool) → wellFormed mapping ≡ w → leb (length (listOf mapping)) 65_536 ≡ l → need w 7 (need l 8 0) ≡ 0
         → (wellFormed mapping ≡ true) × WithinLimit mapping
-    by true true p q z = (p, record { spelled = leb-true _ _ q })
+    by true true p q z = (p, record { well = p; spelled = leb-true _ _ q })
     by true false p q z = absurd (omega arith)
     by false l p q z = absurd (omega arith)
+
+-- a mapping whose refusal was found to be none
+pub accepted-within : (mapping : List ℕ) (n : ℕ) → n ≡ refusal mapping → n ≡ 0 → WithinLimit mapping
+accepted-within mapping n e z = accepted mapping (sym e ∙ z) .1

@@ -19,15 +19,15 @@ use Rattle.mapping.specs.declared.Entry.{Entry}
 use Rattle.mapping.specs.declared.Entry.the-variants as entry
 use Rattle.mapping.specs.declared.Found.{Found}
 use Rattle.mapping.specs.declared.Found.the-variants.{At, Nothing}
-use Rattle.mapping.specs.Entries.{entryAt, inRange, atMost, stopRefusal, WithinLimit}
-use Rattle.mapping.specs.Mapping.{range, spelled, listOf, placeFrom, placeOr, isFound, refusal}
+use Rattle.mapping.specs.Entries.{entryAt, inRange, atMost, stopRefusal, ListFrom, WithinLimit}
+use Rattle.mapping.specs.Mapping.{fromTo, spelled, listOf, placeFrom, placeOr, isFound, refusal}
 use Rattle.mapping.proofs.Ranges.{length-range-le, length-range-through, place-in, place-past}
 use Rattle.mapping.proofs.Entries.{entry-range, entry-stopped, entry-ill-formed, entry-end, stopped-entry}
 
 -- ---- positions up to a limit
 
 -- from which position on it is counted does not matter where both are past the limit
-place-capped : (most ch : ℕ) (l : List ℕ) (j k : ℕ) → min j most ≡ min k most → atMost most (placeFrom j ch l) ≡ atMost most (placeFrom k ch l)
+pub place-capped : (most ch : ℕ) (l : List ℕ) (j k : ℕ) → min j most ≡ min k most → atMost most (placeFrom j ch l) ≡ atMost most (placeFrom k ch l)
 unfolding placeFrom
 place-capped most ch [] j k e = refl
 place-capped most ch (x ∷ l) j k e = by (eqb x ch) (place-capped most ch l (suc j) (suc k) (omega arith))
@@ -56,7 +56,7 @@ module _ (s : List ℕ) (at : ℕ) {x : Entry} (e : x ≡ entryAt s at) {start e
   pub entry-less : length s - c .at < length s - at
   entry-less = let g = entry-range s at e q in omega arith
 
-  pub count-fits : (k z : ℕ) → k ≤ 65_537 → z ≡ length (range start end) → Fits w64 (k + z)
+  pub count-fits : (k z : ℕ) → k ≤ 65_537 → z ≡ length (fromTo start end) → Fits w64 (k + z)
   count-fits k z h i = let g = entry-range s at e q in let l = length-range-le start end in omega arith
 
   module _ (ch : ℕ) (t : Bool) (i : t ≡ inRange start end ch) where
@@ -68,33 +68,33 @@ module _ (s : List ℕ) (at : ℕ) {x : Entry} (e : x ≡ entryAt s at) {start e
           let r = and-eq-true-iff (leb ch end) _ .0 (p .1) in
           (leb-true start ch (p .0), leb-true ch end (r .0), not-true _ (r .1))
 
-      pub found-fits : (k p : ℕ) → k ≤ 65_537 → p ≡ length (range start ch) → Fits w64 (k + p)
+      pub found-fits : (k p : ℕ) → k ≤ 65_537 → p ≡ length (fromTo start ch) → Fits w64 (k + p)
       found-fits k p h z = let g = entry-range s at e q in let r = in-range in let l = length-range-le start ch in omega arith
 
-      pub found-pos : (k p : ℕ) → p ≡ length (range start ch) → 1 ≤ k + p
+      pub found-pos : (k p : ℕ) → p ≡ length (fromTo start ch) → 1 ≤ k + p
       found-pos k p z = let r = in-range in let l = length-range-through start ch (r .2) (r .0) in omega arith
 
       -- where it stands
-      found-place : (k p : ℕ) → p ≡ length (range start ch) → placeFrom k ch (spelled (charsFrom s at)) ≡ At (k + p - 1)
+      found-place : (k p : ℕ) → p ≡ length (fromTo start ch) → placeFrom k ch (spelled (charsFrom s at)) ≡ At (k + p - 1)
       found-place k p z =
           let r = in-range in
           rw (entry-range s at e q .spells, z) (place-in ch (spelled (charsFrom s (c .at))) k start end (r .2) (r .0) (r .1))
 
       -- in the first entry's range
-      pub first-pos : (p : ℕ) → p ≡ length (range start ch) → 1 ≤ p
+      pub first-pos : (p : ℕ) → p ≡ length (fromTo start ch) → 1 ≤ p
       first-pos p z = omega (arith, found-pos 0 p z)
 
-      pub first-fits : (p : ℕ) → p ≡ length (range start ch) → ch < 2 ^ 32 → Fits w32 (p - 1)
+      pub first-fits : (p : ℕ) → p ≡ length (fromTo start ch) → ch < 2 ^ 32 → Fits w32 (p - 1)
       first-fits p z h = let l = length-range-le start ch in omega arith
 
-      pub index-first : (replacement p : ℕ) → p ≡ length (range start ch) → p - 1 ≡ placeOr replacement (placeFrom 0 ch (spelled (charsFrom s at)))
+      pub index-first : (replacement p : ℕ) → p ≡ length (fromTo start ch) → p - 1 ≡ placeOr replacement (placeFrom 0 ch (spelled (charsFrom s at)))
       index-first replacement p z = rw (found-place 0 p z) (omega arith)
 
-      pub found-at : (most k p j : ℕ) (f : Found) → p ≡ length (range start ch) → j ≡ min (k + p - 1) most
+      pub found-at : (most k p j : ℕ) (f : Found) → p ≡ length (fromTo start ch) → j ≡ min (k + p - 1) most
           → atMost most (placeFrom k ch (spelled (charsFrom s at))) ≡ f → At j ≡ f
       found-at most k p j f z m h = rw m (rw (found-place k p z) at h)
 
-    pub find-again : t ≡ false → (most k z j : ℕ) (f : Found) → z ≡ length (range start end) → j ≡ min (k + z) most
+    pub find-again : t ≡ false → (most k z j : ℕ) (f : Found) → z ≡ length (fromTo start end) → j ≡ min (k + z) most
         → atMost most (placeFrom k ch (spelled (charsFrom s at))) ≡ f → atMost most (placeFrom j ch (spelled (charsFrom s (c .at)))) ≡ f
     unfolding inRange
     find-again n most k z j f l m h =
@@ -105,13 +105,21 @@ module _ (s : List ℕ) (at : ℕ) {x : Entry} (e : x ≡ entryAt s at) {start e
         (place-past ch (spelled (charsFrom s (c .at))) (suc end - start) k start (λ p a b. true≢false (sym (inside p a (omega arith)) ∙ sym i ∙ n))) in
         place-capped most ch (spelled (charsFrom s (c .at))) j (k + z) (omega arith) ∙ (rw there at h)
 
+    -- after the first entry, counted from as many as it has
+    pub after-first : t ≡ false → (z j : ℕ) (f : Found) → z ≡ length (fromTo start end) → j ≡ min z 65_536
+        → f ≡ atMost 65_536 (placeFrom j ch (spelled (charsFrom s (c .at)))) → f ≡ atMost 65_536 (placeFrom 0 ch (spelled (charsFrom s at)))
+    after-first n z j f l m h = h ∙ find-again n 65_536 0 z j _ l (omega arith) refl
+
+  pub list-after : wellFormedFrom s at ≡ true → ListFrom s (c .at)
+  list-after w = let g = entry-range s at e q in record { within = g .within; well = sym (g .well-formed) ∙ w }
+
   pub walk-again : (w : Bool) → wellFormedFrom s at ≡ w → wellFormedFrom s (c .at) ≡ w
   walk-again w i = sym (entry-range s at e q .well-formed) ∙ i
 
-  pub count-again : (most k z j total : ℕ) → z ≡ length (range start end) → j ≡ min (k + z) most
+  pub count-again : (most k z j total : ℕ) → z ≡ length (fromTo start end) → j ≡ min (k + z) most
       → min (k + length (spelled (charsFrom s at))) most ≡ total → min (j + length (spelled (charsFrom s (c .at)))) most ≡ total
   count-again most k z j total l m h =
-      let g = ap length (entry-range s at e q .spells) ∙ length-append (range start end) (spelled (charsFrom s (c .at))) in
+      let g = ap length (entry-range s at e q .spells) ∙ length-append (fromTo start end) (spelled (charsFrom s (c .at))) in
       omega arith
 
 -- ---- the end of the loops

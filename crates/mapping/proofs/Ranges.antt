@@ -13,7 +13,7 @@ use lib.ListN.{length}
 use Rattle.characters.specs.Utf8.{isSurrogate}
 use Rattle.mapping.specs.declared.Found.the-variants.{At}
 use Rattle.mapping.specs.Entries.{scalarsBelow}
-use Rattle.mapping.specs.Mapping.{scalarsFrom, range, placeFrom}
+use Rattle.mapping.specs.Mapping.{scalarsFrom, fromTo, placeFrom}
 
 -- ---- how many characters a range has
 
@@ -74,17 +74,17 @@ length-scalars-between start end = elim (decLt end start) [
       )
 ]
 
-pub length-range : (start end r p q : ℕ) → r ≡ p - q → p ≡ scalarsBelow (end + 1) → q ≡ scalarsBelow start → r ≡ length (range start end)
+pub length-range : (start end r p q : ℕ) → r ≡ p - q → p ≡ scalarsBelow (end + 1) → q ≡ scalarsBelow start → r ≡ length (fromTo start end)
 length-range start end r p q e f g = let l = length-scalars-between start (suc end) in let v = ap scalarsBelow (add-one end) in omega arith
 
 scalars-below-le : (v : ℕ) → scalarsBelow v ≤ v
 scalars-below-le v = by-region v (λ l t e. omega arith) (λ l h t e. omega arith) (λ l t e. omega arith)
 
-pub length-range-le : (start end : ℕ) → length (range start end) ≤ suc end
+pub length-range-le : (start end : ℕ) → length (fromTo start end) ≤ suc end
 length-range-le start end = omega (arith, length-scalars-between start (suc end), scalars-below-le (suc end))
 
 -- up to a character in it, a range has the characters before it and itself
-pub length-range-through : (start ch : ℕ) → isSurrogate ch ≡ false → start ≤ ch → length (range start ch) ≡ suc (length (scalarsFrom (ch - start) start))
+pub length-range-through : (start ch : ℕ) → isSurrogate ch ≡ false → start ≤ ch → length (fromTo start ch) ≡ suc (length (scalarsFrom (ch - start) start))
 length-range-through start ch p h =
     let o = length-scalars (ch - start) start in
     let i : start + (ch - start) ≡ ch = omega arith in
@@ -127,7 +127,7 @@ module _ (ch : ℕ) (r : List ℕ) where
 
 -- in a range: as far on as there are characters in it up to this one
 pub place-in : (ch : ℕ) (r : List ℕ) (k start end : ℕ) → isSurrogate ch ≡ false → start ≤ ch → ch ≤ end
-    → placeFrom k ch (range start end ++ r) ≡ At (k + length (range start ch) - 1)
+    → placeFrom k ch (fromTo start end ++ r) ≡ At (k + length (fromTo start ch) - 1)
 place-in ch r k start end p l h =
     let rest = scalarsFrom (suc (end - ch)) ch ++ r in
     let parts : suc end - start ≡ (ch - start) + suc (end - ch) = omega arith in

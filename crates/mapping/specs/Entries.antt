@@ -1,14 +1,16 @@
 -- What the functions on a mapping cite besides its definition: an entry at a position, characters counted without listing them, and
 -- positions up to the limit. Assumes nothing.
+-- Serves contracts: nothing here has to be believed.
 use Prim.Native.Nat.{ℕ, zero, suc, _-_, _≤_, min}
+use mathlib.Core.Path.{_≡_}
 use mathlib.Core.List.{List}
-use mathlib.Core.Bool.{Bool, not, cond, _&&_}
+use mathlib.Core.Bool.{Bool, true, not, cond, _&&_}
 use lib.Dec.{ltb, leb}
 use lib.ListN.{length}
 use Rattle.characters.specs.declared.Step.{Step}
 use Rattle.characters.specs.declared.Step.the-variants.{Character, IllFormed, End}
 use Rattle.characters.specs.Refusal.{need}
-use Rattle.characters.specs.Utf8.{isSurrogate, stepAt}
+use Rattle.characters.specs.Utf8.{isSurrogate, stepAt, wellFormedFrom, wellFormed}
 use Rattle.mapping.specs.declared.Entry.{Entry}
 use Rattle.mapping.specs.declared.Entry.the-variants as entry
 use Rattle.mapping.specs.declared.Found.{Found}
@@ -60,6 +62,12 @@ stopRefusal (entry.Range start end c) count = 7
 stopRefusal entry.IllFormed count = 7
 stopRefusal entry.End count = need (leb count 65_536) 8 0
 
--- what refusal 8 leaves: "a mapping spells ≤ 65,536 characters"
+-- a position of a mapping from which the rest is well-formed
+pub record ListFrom (mapping : List ℕ) (at : ℕ) : Type 0 where
+  pub within : at ≤ length mapping
+  pub well : wellFormedFrom mapping at ≡ true
+
+-- what refusals 7 and 8 leave: a well-formed mapping that "spells ≤ 65,536 characters"
 pub record WithinLimit (mapping : List ℕ) : Type 0 where
+  pub well : wellFormed mapping ≡ true
   pub spelled : length (listOf mapping) ≤ 65_536

@@ -1,4 +1,5 @@
--- `StrGlyphMapping`: the characters that a mapping spells, and where one stands among them (document 01, Mapping). Assumes nothing.
+-- `StrGlyphMapping`: the characters that a mapping spells, and where one stands among them (docs/SHEET.md, Mapping). Assumes nothing.
+-- To be believed: it says what a sheet means.
 use Prim.Native.Nat.{ℕ, zero, suc, _-_}
 use mathlib.Core.List.{List, [], _∷_, _++_}
 use mathlib.Core.Bool.{Bool, true, false, cond}
@@ -15,8 +16,8 @@ scalarsFrom zero a = []
 scalarsFrom (suc n) a = let rest = scalarsFrom n (suc a) in cond (isSurrogate a) rest (a ∷ rest)
 
 -- "all from start to end"; "If end < start, none"
-abbrev pub range : ℕ → ℕ → List ℕ
-range start end = scalarsFrom (suc end - start) start
+abbrev pub fromTo : ℕ → ℕ → List ℕ
+fromTo start end = scalarsFrom (suc end - start) start
 
 -- "a single character, or 00 then start and end"; "A 00 lacking start or end stops the list"
 unfoldable pub spelled : List ℕ → List ℕ
@@ -24,7 +25,7 @@ spelled [] = []
 spelled (suc ch ∷ rest) = suc ch ∷ spelled rest
 spelled (zero ∷ []) = []
 spelled (zero ∷ start ∷ []) = []
-spelled (zero ∷ start ∷ end ∷ rest) = range start end ++ spelled rest
+spelled (zero ∷ start ∷ end ∷ rest) = fromTo start end ++ spelled rest
 
 -- the characters that a mapping's bytes spell
 abbrev pub listOf : List ℕ → List ℕ

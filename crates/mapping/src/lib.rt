@@ -1,10 +1,13 @@
 use characters::Cursor;
 use characters::Step;
 ghost use mathlib.Core.Path.{_≡_};
-ghost use Prim.Native.Nat.{_-_, min};
+ghost use Prim.Native.Nat.{_-_, _≤_, min};
 ghost use lib.ListN.{length};
-ghost use Rattle.mapping.specs.Entries.{entryAt, stopOf, inRange, scalarsBelow, atMost, stopRefusal, WithinLimit};
-ghost use Rattle.mapping.specs.Mapping.{range, listOf, placeFrom, index, contains, refusal};
+ghost use Rattle.characters.specs.Utf8.{charsFrom};
+ghost use Rattle.mapping.specs.Entries.{entryAt, stopOf, inRange, scalarsBelow, atMost, stopRefusal, ListFrom, WithinLimit};
+ghost use Rattle.mapping.specs.Mapping.{fromTo, spelled, placeFrom, index, contains, refusal};
+
+pub mod search;
 
 // What stands at a position of a mapping: a range of characters and the position after it, a sequence that RFC 3629 does not
 // allow, or the end of the list.
@@ -55,7 +58,7 @@ fn scalars_below(v: u64) -> u64
 
 // How many characters stand from `start` to `end`, both included.
 fn range_len(start: u32, end: u32) -> u64
-    ensures { λ r. ⌜ r ≡ length (range start end) ⌝ }
+    ensures { λ r. ⌜ r ≡ length (fromTo start end) ⌝ }
 {
     let below = scalars_below(start as u64);
     minus(scalars_below(end as u64 + 1), below)
@@ -100,14 +103,19 @@ fn entry_at(mapping: &[u8], c: Cursor) -> Entry
     Entry::Range(start, end, last)
 }
 
-// The first position of a character in a mapping, or 65,536 for every position from there on.
-fn find(mapping: &[u8], ch: u32) -> Found
-    ensures { λ r. ⌜ r ≡ atMost 65_536 (placeFrom 0 ch (listOf (now (mapping .entry)))) ⌝ }
+// The first position of a character in the list from a cursor on, counted from `count`, or 65,536 for every position from there on.
+fn find(mapping: &[u8], from: Cursor, count: u64, ch: u32) -> Found
+    requires { ⌜ ListFrom (now mapping) (from .at) ⌝ }
+    requires { ⌜ count ≤ 65_536 ⌝ }
+    ensures { λ r. ⌜ r ≡ atMost 65_536 (placeFrom count ch (spelled (charsFrom (now (mapping .entry)) (from .at)))) ⌝ }
 {
-    let mut c = Cursor { at: 0 };
-    let mut k: u64 = 0;
+    let mut c = from;
+    let mut k = count;
     loop {
-        let Entry::Range(start, end, after) = entry_at(mapping, c) else {
+        let passed = search::skip(mapping, c.at, ch);
+        let more = at_most(passed.count, 65536);
+        k = at_most(k + more, 65536);
+        let Entry::Range(start, end, after) = entry_at(mapping, Cursor { at: passed.at }) else {
             return Found::Nothing;
         };
         if in_range(start, end, ch) {
@@ -135,14 +143,15 @@ pub fn index_with(mapping: &[u8], first: Entry, replacement: u32, ch: u32) -> u3
     requires { ⌜ first ≡ entryAt (now mapping) 0 ⌝ }
     ensures { λ r. ⌜ r ≡ index (now (mapping .entry)) replacement ch ⌝ }
 {
-    let Entry::Range(start, end, _) = first else {
+    let Entry::Range(start, end, after) = first else {
         return replacement;
     };
     if in_range(start, end, ch) {
         let through = range_len(start, ch);
         return (through - 1) as u32;
     }
-    let Found::At(place) = find(mapping, ch) else {
+    let len = at_most(range_len(start, end), 65536);
+    let Found::At(place) = find(mapping, after, len, ch) else {
         return replacement;
     };
     place
@@ -157,11 +166,12 @@ pub fn index(mapping: &[u8], replacement: u32, ch: u32) -> u32
     index_with(mapping, first, replacement, ch)
 }
 
-// Whether a mapping lists a character.
+// Whether a mapping that the check accepts lists a character.
 pub fn contains(mapping: &[u8], ch: u32) -> bool
+    requires { ⌜ WithinLimit (now mapping) ⌝ }
     ensures { λ r. ⌜ r ≡ contains (now (mapping .entry)) ch ⌝ }
 {
-    let Found::At(_) = find(mapping, ch) else {
+    let Found::At(_) = find(mapping, Cursor { at: 0 }, 0, ch) else {
         return false;
     };
     true

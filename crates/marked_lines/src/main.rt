@@ -1,45 +1,91 @@
-// Document 01's marked lines that are not starred, and RFC 3629's examples: a line of output for each.
+// The marked lines of docs/SHEET.md, Worked examples, that are not starred, and RFC 3629's examples. Each is a line of standard input: a kind, bytes in hexadecimal, `=` and a
+// name; and a line of output: the name, the bytes and what was found. The kinds are t, a text; m, a mapping; i, the index of a character (three bytes, the
+// highest first) in the mapping that follows, with replacement 9; s, a sheet. The marked line on the program is the stored test of `station_page`.
+use bytes::scan::find;
 use characters::Cursor;
 use characters::Step;
+use libc::STDIN_FILENO;
+use libc::STDOUT_FILENO;
+use numbers::byte_or_zero;
+use numbers::wide;
+ghost use Prim.Native.Nat.{_<_, _≤_};
+ghost use lib.ListN.{length};
+ghost use Rattle.mapping.specs.Entries.{WithinLimit};
 
-fn wide(byte: u8) -> u64 {
-    byte as u64
+// ---- what is written
+
+fn write(text: &[u8]) {
+    io::write_all(STDOUT_FILENO, text);
 }
 
-// Writes the bytes in hexadecimal, each after a blank.
+// Writes a number in decimal after a text.
+fn write_number(text: &[u8], n: u64) {
+    write(text);
+    io::print_decimal(STDOUT_FILENO, n);
+}
+
+// Writes a number in hexadecimal after a blank, in at least so many digits.
+fn write_hex(n: u32, digits: usize) {
+    write(b" ");
+    io::print_hex(STDOUT_FILENO, n as u64, digits);
+}
+
 fn write_bytes(bytes: &[u8]) {
     let mut i = 0;
     while i < bytes.len() {
-        io::write_all(1, b" ");
-        io::print_hex(1, wide(bytes[i]), 2);
+        write_hex(wide(bytes[i]), 2);
         i += 1;
     }
+    write(b":");
 }
 
-// Writes a number in decimal after a text, and ends the line.
-fn write_number(text: &[u8], n: u64) {
-    io::write_all(1, text);
-    io::print_decimal(1, n);
-    io::write_all(1, b"\n");
-}
+// ---- what is found
 
-// A text: the characters that it spells, and where a sequence is not allowed; its refusal as a new text.
+// The characters that a text spells, and where a sequence is not allowed, with its refusal as a new text.
 fn show_text(bytes: &[u8]) {
-    io::write_all(1, b"text");
-    write_bytes(bytes);
-    io::write_all(1, b":");
     let mut c = Cursor { at: 0 };
     while c.at < bytes.len() {
         let Step::Character(ch, after) = characters::next(bytes, c) else {
             write_number(b" ill-formed at ", c.at as u64);
-            write_number(b"  refused ", characters::walk(bytes, 14) as u64);
+            write_number(b", refused ", characters::walk(bytes, 14) as u64);
             return;
         };
-        io::write_all(1, b" ");
-        io::print_hex(1, ch as u64, 4);
+        write_hex(ch, 4);
         c = after;
     }
     write_number(b", characters: ", characters::count(bytes) as u64);
+}
+
+fn one_if(yes: bool) -> u32
+    ensures { λ r. ⌜ r ≤ 1 ⌝ }
+{
+    if yes {
+        return 1;
+    }
+    0
+}
+
+// How many numbers a mapping lists.
+fn listed(mapping: &[u8]) -> u32
+    requires { ⌜ WithinLimit (now mapping) ⌝ }
+{
+    let mut n = 0;
+    let mut ch: u32 = 0;
+    while ch < 0x110000 {
+        n += one_if(mapping::contains(mapping, ch));
+        ch += 1;
+    }
+    n
+}
+
+// A mapping's refusal, or how many characters it lists.
+fn show_mapping(mapping: &[u8]) {
+    let refusal = mapping::check_mapping(mapping);
+    if refusal != 0 {
+        write_number(b" refused ", refusal as u64);
+        return;
+    }
+    write_number(b" fits, lists ", listed(mapping) as u64);
 }
 
 // The index of a character in a mapping with replacement 9; 0 in a mapping that is refused.
@@ -51,107 +97,134 @@ fn index_of(mapping: &[u8], ch: u32) -> u32 {
     mapping::index(mapping, 9, ch)
 }
 
-// A mapping: its refusal, or the index of a character with replacement 9, and whether it is listed.
-fn show_index(mapping: &[u8], ch: u32) {
-    io::write_all(1, b"mapping");
-    write_bytes(mapping);
+// Whether a mapping lists a character; no in a mapping that is refused.
+fn is_listed(mapping: &[u8], ch: u32) -> bool {
     let refusal = mapping::check_mapping(mapping);
     if refusal != 0 {
-        write_number(b": refused ", refusal as u64);
+        return false;
+    }
+    mapping::contains(mapping, ch)
+}
+
+fn character_of(bytes: &[u8]) -> u32 {
+    65536 * wide(byte_or_zero(bytes, 0))
+        + 256 * wide(byte_or_zero(bytes, 1))
+        + wide(byte_or_zero(bytes, 2))
+}
+
+// The index of a character, and whether it is listed.
+fn show_index(bytes: &[u8]) {
+    if bytes.len() < 3 {
         return;
     }
-    io::write_all(1, b": ");
-    io::print_hex(1, ch as u64, 4);
-    io::write_all(1, b" is ");
-    io::print_decimal(1, index_of(mapping, ch) as u64);
-    if mapping::contains(mapping, ch) {
-        io::write_all(1, b", listed\n");
+    let ch = character_of(bytes);
+    let mapping = &bytes[3..];
+    write_hex(ch, 4);
+    write_number(b" is ", index_of(mapping, ch) as u64);
+    if is_listed(mapping, ch) {
+        write(b", listed");
+    }
+}
+
+// What the check says of a sheet.
+fn show_sheet(sheet: &[u8]) {
+    let refusal = sheet::check(sheet);
+    if refusal != 0 {
+        write_number(b" refused ", refusal as u64);
         return;
     }
-    io::write_all(1, b", not listed\n");
+    write(b" accepted");
 }
 
-// RFC 3629, section 3: the first and the last character of each length.
-fn lengths() {
-    show_text(b"\x00");
-    show_text(b"\x7F");
-    show_text(b"\xC2\x80");
-    show_text(b"\xDF\xBF");
-    show_text(b"\xE0\xA0\x80");
-    show_text(b"\xEF\xBF\xBF");
-    show_text(b"\xF0\x90\x80\x80");
-    show_text(b"\xF4\x8F\xBF\xBF");
+fn show(kind: u8, bytes: &[u8]) {
+    write_bytes(bytes);
+    if kind == b't' {
+        show_text(bytes);
+        return;
+    }
+    if kind == b'm' {
+        show_mapping(bytes);
+        return;
+    }
+    if kind == b'i' {
+        show_index(bytes);
+        return;
+    }
+    show_sheet(bytes);
 }
 
-// RFC 3629, section 3: no surrogates, nothing above 10FFFF, no overlong form; octets C0, C1 and F5 to FF never appear.
-fn prohibited() {
-    show_text(b"\xED\x9F\xBF");
-    show_text(b"\xED\xA0\x80");
-    show_text(b"\xED\xBF\xBF");
-    show_text(b"\xEE\x80\x80");
-    show_text(b"\xF4\x90\x80\x80");
-    show_text(b"\xF5\x80\x80\x80");
-    show_text(b"\xF7\xBF\xBF\xBF");
-    show_text(b"\xF8\x88\x80\x80\x80");
-    show_text(b"\xFC\x84\x80\x80\x80\x80");
-    show_text(b"\xFE");
-    show_text(b"\xFF");
-    show_text(b"\xC0\x80");
-    show_text(b"\xC1\xBF");
-    show_text(b"\xE0\x80\x80");
-    show_text(b"\xE0\x9F\xBF");
-    show_text(b"\xF0\x80\x80\x80");
-    show_text(b"\xF0\x8F\xBF\xBF");
+// ---- a line of input
+
+// The value of a hexadecimal digit.
+fn digit(b: u8) -> u8
+    ensures { λ r. ⌜ r < 16 ⌝ }
+{
+    if b < b'A' {
+        return b % 16;
+    }
+    (b % 16 + 9) % 16
 }
 
-// RFC 3629, section 4: what follows the lead byte is 80 to BF, and all of it is there.
-fn cut() {
-    show_text(b"\x80");
-    show_text(b"\xBF");
-    show_text(b"\xC2");
-    show_text(b"\xC2\x41");
-    show_text(b"\xC2\xC0");
-    show_text(b"\xE2\x82");
-    show_text(b"\xE2\x41\xAC");
-    show_text(b"\xE2\x82\x7F");
-    show_text(b"\xF0\x9F\x92");
-    show_text(b"\xF0\x9F\x92\x41");
-    show_text(b"\xF0\x9F\xC0\xA9");
-    show_text(b"\x41\xE2\x82\xAC\xE2\x82");
+// The byte that two digits of a line spell, the first of them in column 2.
+fn byte_at(line: &[u8], i: usize) -> u8
+    requires { ⌜ i < 64 ⌝ }
+{
+    let high = digit(byte_or_zero(line, 3 * i + 2));
+    16 * high + digit(byte_or_zero(line, 3 * i + 3))
 }
 
-// RFC 3629, section 7, and the overlong form of section 10.
-fn examples() {
-    show_text(b"\x41\xE2\x89\xA2\xCE\x91\x2E");
-    show_text(b"\xED\x95\x9C\xEA\xB5\xAD\xEC\x96\xB4");
-    show_text(b"\xE6\x97\xA5\xE6\x9C\xAC\xE8\xAA\x9E");
-    show_text(b"\xEF\xBB\xBF\xF0\xA3\x8E\xB4");
-    show_text(b"\x2F\xC0\xAE\x2E\x2F");
+// Reads the bytes of a line.
+fn read_bytes(line: &[u8], bytes: &mut [u8])
+    requires { ⌜ length (now bytes) ≤ 64 ⌝ }
+{
+    let mut i = 0;
+    while i < bytes.len() {
+        bytes[i] = byte_at(line, i);
+        i += 1;
+    }
 }
 
-// Document 01: mappings.
-fn mappings() {
-    show_index(b"\x00\x41", 0x41);
-    show_index(b"\x00\x00\x41", 0x41);
-    show_index(b"\x00\x00", 0x00);
-    show_index(b"\x00\x62\x61\x63", 0x62);
-    show_index(b"\x41\x42\x41", 0x41);
-    show_index(b"\x00\xED\x9F\xBF\xEE\x80\x80", 0xD7FF);
-    show_index(b"\x00\xED\x9F\xBF\xEE\x80\x80", 0xD800);
-    show_index(b"\x00\x20\x7F", 0x110000);
-    show_index(b"\x00\xF0\x90\x80\x80\xF0\x9F\xBF\xBF", 0x1FFFF);
-    show_index(b"\x00\xF0\x90\x80\x80\xF0\xA0\x80\x80", 0x1FFFF);
-    show_index(b"\x00\x01\xF4\x8F\xBF\xBF\xC0\x80", 0x41);
-    show_index(b"\xED\xA0\x80", 0x41);
-    show_index(b"\xC0\x80", 0x41);
-    show_index(b"\xF4\x90\x80\x80", 0x41);
-    show_index(b"\xF4\x8F\xBF\xBF", 0x10FFFF);
+// How many bytes stand before the `=` at a column.
+fn byte_count(at: usize) -> usize
+    ensures { λ r. ⌜ r ≤ 64 ⌝ }
+{
+    if at < 192 {
+        return at / 3;
+    }
+    64
+}
+
+fn show_line(line: &[u8]) {
+    let size = line.len();
+    let at = find(line, 0, size, b'=');
+    if size - at < 2 {
+        return;
+    }
+    let name = at + 2;
+    write(&line[name..size]);
+    write(b":");
+    let mut buffer = [0u8; 64];
+    let bytes = &mut buffer[0..byte_count(at)];
+    read_bytes(line, bytes);
+    show(byte_or_zero(line, 0), &bytes[..]);
+    write(b"\n");
+}
+
+fn show_lines(text: &[u8]) {
+    let size = text.len();
+    let mut from = 0;
+    loop {
+        let to = find(text, from, size, 0x0A);
+        show_line(&text[from..to]);
+        if to == size {
+            return;
+        }
+        from = to + 1;
+    }
 }
 
 fn main() {
-    lengths();
-    prohibited();
-    cut();
-    examples();
-    mappings();
+    let mut text = [0u8; 8192];
+    let n = io::read_full(STDIN_FILENO, &mut text);
+    show_lines(&text[..n]);
 }

@@ -1,4 +1,5 @@
 -- What the list stores of a change: an offset and a length of two bytes each, then the bytes. Assumes nothing.
+-- Serves contracts: nothing here has to be believed.
 use Prim.Native.Nat.{ℕ, _+_, _*_}
 use mathlib.Core.List.{List, _++_}
 use lib.ListN.{length, getD, take, drop}

@@ -1,10 +1,13 @@
-// Replays a list of calls with the answers of the Rust crate and of document 01's formulas, read from standard input: each case on
+// Replays a list of calls with the answers of the Rust crate and of the formulas of docs/SHEET.md, read from standard input: each case on
 // slices of its own, each call on what the call before left. The reply's five numbers and every byte of sheet, frame and output are
 // compared after each call. `oracle/src/list.rs` has the list's form and makes it.
 use check::same;
 use geometry::fill_row;
 use libc::STDIN_FILENO;
-use replay::byte_or_zero;
+use numbers::byte_or_zero;
+use programs::write_line;
+use programs::write_number;
+use programs::write_word;
 use replay::edit;
 use replay::edit_on_sheet;
 use replay::least;
@@ -15,9 +18,6 @@ use replay::signed;
 use replay::store;
 use replay::u16_of;
 use replay::u32_of;
-use replay::write_line;
-use replay::write_number;
-use replay::write_word;
 use station::Box;
 use station::Number;
 use station::Position;

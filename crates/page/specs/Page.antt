@@ -1,4 +1,5 @@
--- The header of a page as a Netpbm file (document 01, Page and host). Assumes nothing.
+-- The header of a page as a Netpbm file (docs/SHEET.md, Page and host). Assumes nothing.
+-- To be believed: it says what a sheet means.
 use Prim.Native.Nat.{ℕ, _+_, _/_, _%_}
 use mathlib.Core.Bool.{cond}
 use mathlib.Core.List.{List, [], _∷_, _++_}

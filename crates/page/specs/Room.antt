@@ -1,4 +1,5 @@
 -- What the page writer requires. Assumes nothing.
+-- Serves contracts: nothing here has to be believed.
 use Prim.Native.Nat.{ℕ, _+_, _≤_, _<_}
 use mathlib.Core.List.{List, _++_}
 use lib.ListN.{length}

@@ -1,2 +1,3 @@
-pub mod Codes
 pub mod Readings
+pub mod Unchanged
+pub mod EditedItem

@@ -1,5 +1,6 @@
 // Fonts and items of an accepted sheet: numbers by value, pieces as parts of the file.
 use atlas::Atlas;
+use geometry::ORIGIN;
 use geometry::OptionalGrey;
 use geometry::Point;
 use geometry::Size;
@@ -23,7 +24,7 @@ ghost use lib.ListN.{length};
 ghost use Rattle.line.specs.Limits.{FontLimits};
 ghost use Rattle.sheet.specs.Fields.{coordinate, fontAt, itemAt, fontNumber, atlasBytes, mappingBytes, textBytes};
 ghost use Rattle.sheet.specs.Requires.{FontListed, ItemListed};
-ghost use Rattle.sheet.specs.Records.{optionalGrey, decorationColor, alignment, baseline, lineHeight, monoFont, monoTextStyle, styleOf, textStyle, itemOf};
+ghost use Rattle.records.specs.Records.{optionalGrey, decorationColor, alignment, baseline, lineHeight, monoFont, monoTextStyle, styleOf, textStyle, itemOf};
 
 // Font `n`, but for its pieces.
 pub fn font_at(sheet: &[u8], n: u32) -> MonoFont
@@ -100,9 +101,9 @@ fn coordinate(n: u16) -> u32
 {
     let wide = n as u32;
     if wide < 32768 {
-        return 2097152 + wide;
+        return ORIGIN + wide;
     }
-    2097152 + wide - 65536
+    ORIGIN + wide - 65536
 }
 
 // Item `n`'s x and y.

@@ -1,4 +1,4 @@
--- Laws of parts, of stored bytes and of signed numbers. Assumes nothing.
+-- Laws of parts, of stored bytes, of signed numbers and of the kinds of edits. Assumes nothing.
 use Prim.Native.Nat.{ℕ, zero, suc, _+_, _-_, _^_, _≤_, _<_, min}
 use native.Mathlib.Decide.{decLe}
 use native.Mathlib.Omega.{arith}
@@ -8,11 +8,15 @@ use mathlib.Core.List.{List, [], _∷_, _++_, append-assoc, append-nil}
 use lib.Dec.{leb, eqb}
 use lib.IntN.{ℤ, pos, negsuc, _-ℤ_}
 use lib.ListN.{length, getD, take, drop, length-take, length-drop, drop-of-length-le}
-use lib.Seq.{sets, sets-eq, take-all, take-length, drop-drop}
+use lib.Seq.{sets-eq, take-all, take-length, drop-drop}
 use mir.Syntax.{w32}
 use mir.Val.{toZ, ofZ, SFits}
-use mir.Facts.{toZ-pos}
-use borrow.Author.Tests.{le-leb, lt-leb, eq-eqb, eqb-true}
+use mir.Facts.{toZ-pos, toZ-ofZ}
+use borrow.Author.Tests.{le-leb, lt-leb, eq-eqb, ne-eqb, eqb-true}
+use Rattle.sheet.specs.Edits.{Edit, newText, newPlace, newStyle}
+use Rattle.calls.specs.declared.Box.{Box}
+use Rattle.calls.specs.Calls.{editReply, editSheet, editFrame, onSheetReply, onSheetSheet}
+use Rattle.replay.specs.Edits.{editOf}
 use Rattle.replay.specs.Stored.{stored}
 
 -- ---- a part that the end of the list cuts
@@ -85,3 +89,37 @@ unlike k a b h = ((λ e. absurd (let z : _≡_ {A = ℕ} 0 1 = cc in omega arith
 pub alike : {k k′ x x′ y y′ z z′ : ℕ} (w w′ : ℕ) → k ≡ k′ → x ≡ x′ → y ≡ y′ → z ≡ z′
     → (eqb w w′ ≡ true → k ∷ x ∷ y ∷ z ∷ w ∷ [] ≡ k′ ∷ x′ ∷ y′ ∷ z′ ∷ w′ ∷ []) × (k ∷ x ∷ y ∷ z ∷ w ∷ [] ≡ k′ ∷ x′ ∷ y′ ∷ z′ ∷ w′ ∷ [] → eqb w w′ ≡ true)
 alike w w′ p q r s = ((λ e. let t = eqb-true w w′ e in rw (p, q, r, s, t)), (λ e. eq-eqb w w′ (ap (λ (l : List ℕ). getD l 4 0) e)))
+
+-- ---- the kinds of edits
+
+module _ (kind item : ℕ) (x y : ℤ) (bytes : List ℕ) where
+  pub edit-text : kind ≡ 0 → editOf kind item x y bytes ≡ newText item bytes
+  unfolding editOf
+  edit-text e = rw (eq-eqb kind 0 e)
+
+  -- x and y are handed on as 32 bits
+  pub edit-place : SFits w32 x → SFits w32 y → (kind ≡ 0 → ⊥) → kind ≡ 1 → editOf kind item x y bytes ≡ newPlace item (toZ w32 (ofZ w32 x)) (toZ w32 (ofZ w32 y))
+  unfolding editOf
+  edit-place f g n e = rw (ne-eqb kind 0 n, eq-eqb kind 1 e, toZ-ofZ {z = x} f, toZ-ofZ {z = y} g)
+
+  pub edit-style : (kind ≡ 0 → ⊥) → (kind ≡ 1 → ⊥) → editOf kind item x y bytes ≡ newStyle item bytes
+  unfolding editOf
+  edit-style n m = rw (ne-eqb kind 0 n, ne-eqb kind 1 m)
+
+-- what a call did for an edit, it did for the same edit by its kind
+module _ (b frame : List ℕ) {e e′ : Edit} (same : e′ ≡ e) where
+  pub reply-as : {r : Box} → r ≡ editReply b frame e → r ≡ editReply b frame e′
+  reply-as h = rw same h
+
+  pub sheet-as : {s : List ℕ} → s ≡ editSheet b frame e → s ≡ editSheet b frame e′
+  sheet-as h = rw same h
+
+  pub frame-as : {f : List ℕ} → f ≡ editFrame b frame e → f ≡ editFrame b frame e′
+  frame-as h = rw same h
+
+module _ (b : List ℕ) {e e′ : Edit} (same : e′ ≡ e) where
+  pub on-sheet-reply-as : {r : Box} → r ≡ onSheetReply b e → r ≡ onSheetReply b e′
+  on-sheet-reply-as h = rw same h
+
+  pub on-sheet-sheet-as : {s : List ℕ} → s ≡ onSheetSheet b e → s ≡ onSheetSheet b e′
+  on-sheet-sheet-as h = rw same h

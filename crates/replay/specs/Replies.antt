@@ -1,4 +1,5 @@
 -- The numbers of a reply. Assumes nothing.
+-- Serves contracts: nothing here has to be believed.
 use Prim.Native.Nat.{ℕ}
 use mathlib.Core.List.{List, [], _∷_}
 use mir.Syntax.{w32}

@@ -1,4 +1,5 @@
 -- Bytes stored in a list of bytes, where they fit. Assumes nothing.
+-- Serves contracts: nothing here has to be believed.
 use Prim.Native.Nat.{ℕ, _+_}
 use mathlib.Core.Bool.{cond}
 use mathlib.Core.List.{List}

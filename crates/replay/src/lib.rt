@@ -1,6 +1,7 @@
-// What the programs that replay a stored list share: numbers and parts read from it, replies compared, bytes stored, and words
-// written to standard output. A list that ends early has zeros for the missing bytes, and shorter parts.
-use libc::STDOUT_FILENO;
+// What the programs that replay a stored list share: numbers and parts read from it, replies compared, bytes stored, and the edits.
+// A list that ends early has zeros for the missing bytes, and shorter parts.
+use numbers::byte_or_zero;
+use numbers::wide;
 use station::Box;
 ghost use mathlib.Core.Path.{_≡_};
 ghost use mathlib.Core.Bool.{true};
@@ -9,24 +10,10 @@ ghost use lib.Dec.{leb};
 ghost use lib.ListN.{length, getD, take, drop};
 ghost use mir.Syntax.{w32};
 ghost use mir.Val.{toZ};
+ghost use Rattle.calls.specs.Calls.{editReply, editSheet, editFrame, onSheetReply, onSheetSheet};
+ghost use Rattle.replay.specs.Edits.{editOf};
 ghost use Rattle.replay.specs.Replies.{numbers};
 ghost use Rattle.replay.specs.Stored.{stored};
-
-fn wide(byte: u8) -> u32
-    ensures { λ r. ⌜ (r ≡ byte) × (r < 2 ^ 8) ⌝ }
-{
-    byte as u32
-}
-
-// The byte at `at`, or 0 past the end.
-pub fn byte_or_zero(bytes: &[u8], at: usize) -> u8
-    ensures { λ r. ⌜ r ≡ getD (now (bytes .entry)) at 0 ⌝ }
-{
-    if at < bytes.len() {
-        return bytes[at];
-    }
-    0
-}
 
 // The number that the first two bytes store.
 pub fn u16_of(bytes: &[u8]) -> u32
@@ -117,7 +104,7 @@ pub fn same_reply(a: Box, b: Box) -> bool
     a.height == b.height
 }
 
-// Makes an edit with a frame: 0 a new text, 1 a new place, 2 a new style.
+// Makes an edit with a frame: 0 a new text, 1 a new place, any other kind a new style.
 pub fn edit(
     sheet: &mut [u8],
     frame: &mut [u8],
@@ -126,7 +113,11 @@ pub fn edit(
     x: i32,
     y: i32,
     text: &[u8],
-) -> Box {
+) -> Box
+    ensures { λ r. ⌜ r ≡ editReply (now (sheet .entry)) (now (frame .entry)) (editOf kind item x y (now (text .entry))) ⌝ }
+    ensures { λ _. ⌜ now (sheet .exit) ≡ editSheet (now (sheet .entry)) (now (frame .entry)) (editOf kind item x y (now (text .entry))) ⌝ }
+    ensures { λ _. ⌜ now (frame .exit) ≡ editFrame (now (sheet .entry)) (now (frame .entry)) (editOf kind item x y (now (text .entry))) ⌝ }
+{
     if kind == 0 {
         return station::station_set_text(sheet, frame, item, text);
     }
@@ -137,7 +128,10 @@ pub fn edit(
 }
 
 // Makes an edit on the sheet alone.
-pub fn edit_on_sheet(sheet: &mut [u8], kind: u8, item: u32, x: i32, y: i32, text: &[u8]) -> Box {
+pub fn edit_on_sheet(sheet: &mut [u8], kind: u8, item: u32, x: i32, y: i32, text: &[u8]) -> Box
+    ensures { λ r. ⌜ r ≡ onSheetReply (now (sheet .entry)) (editOf kind item x y (now (text .entry))) ⌝ }
+    ensures { λ _. ⌜ now (sheet .exit) ≡ onSheetSheet (now (sheet .entry)) (editOf kind item x y (now (text .entry))) ⌝ }
+{
     if kind == 0 {
         return station::station_set_text_on_sheet(sheet, item, text);
     }
@@ -145,31 +139,4 @@ pub fn edit_on_sheet(sheet: &mut [u8], kind: u8, item: u32, x: i32, y: i32, text
         return station::station_set_place_on_sheet(sheet, item, x, y);
     }
     station::station_set_style_on_sheet(sheet, item, text)
-}
-
-// Writes a word to standard output.
-pub fn write_word(text: &[u8]) {
-    io::write_all(STDOUT_FILENO, text);
-}
-
-// Writes a number in decimal after a blank.
-pub fn write_number(n: u64) {
-    write_word(b" ");
-    io::print_decimal(STDOUT_FILENO, n);
-}
-
-// Writes a word and a number as a line.
-pub fn write_line(text: &[u8], n: u64) {
-    write_word(text);
-    write_number(n);
-    write_word(b"\n");
-}
-
-// Writes one of two words.
-pub fn write_either(first: bool, yes: &[u8], no: &[u8]) {
-    if first {
-        write_word(yes);
-        return;
-    }
-    write_word(no);
 }

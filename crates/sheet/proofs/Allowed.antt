@@ -1,13 +1,12 @@
 -- What an edit that is not refused tells of itself, and which bytes it writes. Assumes nothing.
 use Prim.Native.Nat.{ℕ, _+_, _≤_, _<_}
 use mathlib.Core.Path.{_≡_}
-use mathlib.Core.Bool.{true, _&&_}
+use mathlib.Core.Bool.{true, _&&_, and-eq-true-iff}
 use mathlib.Core.List.{List}
 use lib.Dec.{ltb, leb, eqb}
 use lib.IntN.{ℤ}
 use lib.ListN.{length, getD}
 use borrow.Author.Tests.{ltb-true, leb-true, eqb-true}
-use Rattle.geometry.proofs.Rectangles.{and-true}
 use Rattle.characters.specs.Refusal.{need}
 use Rattle.characters.specs.Utf8.{wellFormed}
 use Rattle.sheet.specs.Fields.{itemCount, itemAt, slotOffset, slotSize, textLengthAt, styleAt}
@@ -44,15 +43,16 @@ module _ (b : List ℕ) (i : ℕ) where
   unfolding placeRefusal
   place-allowed x y a =
       let p = need-zero (ltb i (itemCount b)) 11 (need (inRange x && inRange y) 15 0) a in
-      let q = and-true _ _ (need-zero (inRange x && inRange y) 14 0 (p .1) .0) in
+      let q = and-eq-true-iff (inRange x) (inRange y) .0 (need-zero (inRange x && inRange y) 14 0 (p .1) .0) in
       record { listed = ltb-true _ _ (p .0); x-in = q .0; y-in = q .1 }
 
   pub style-allowed : (t : List ℕ) → styleRefusal b i t ≡ 0 → StyleAllowed b i t
   unfolding styleRefusal
   style-allowed t a =
-      let test = eqb (length t) 8 && goodModes (getD t 0 0) (getD t 2 0) (getD t 4 0) (getD t 6 0) in
+      let modes = goodModes (getD t 0 0) (getD t 2 0) (getD t 4 0) (getD t 6 0) in
+      let test = eqb (length t) 8 && modes in
       let p = need-zero (ltb i (itemCount b)) 11 (need test 16 0) a in
-      let q = and-true _ _ (need-zero test 15 0 (p .1) .0) in
+      let q = and-eq-true-iff (eqb (length t) 8) modes .0 (need-zero test 15 0 (p .1) .0) in
       record { listed = ltb-true _ _ (p .0); eight = eqb-true _ _ (q .0); modes = q .1 }
 
 pub listed : (b : List ℕ) (e : Edit) → refusal b e ≡ 0 → itemNumber e < itemCount b

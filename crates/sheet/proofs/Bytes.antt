@@ -6,7 +6,7 @@ use lib.ListN.{length, getD, take, drop, set, replicate, length-take, length-dro
 use lib.Seq.{sets, length-sets, getD-set-other, getD-set-same, ext-getD, getD-take, getD-drop}
 use native.Mathlib.Nat.{add-zero, add-suc, suc-add}
 use native.Mathlib.Omega.{arith}
-use Rattle.sheet.specs.Fields.{u16, u32, part, le16}
+use Rattle.sheet.specs.Fields.{le16At, le32At, part, le16}
 
 pub sets-other : (vs l : List ℕ) (i k : ℕ) → (i ≤ k → k < i + length vs → ⊥) → getD (sets l i vs) k 0 ≡ getD l k 0
 sets-other [] l i k h = refl
@@ -28,18 +28,42 @@ sets-part vs l o i n h m = ext-getD 0 (take n (drop (o + i) (sets l o vs))) (tak
         getD-take n (drop (o + i) (sets l o vs)) k 0 r ∙ getD-drop (o + i) (sets l o vs) k 0 ∙ ap (λ (j : ℕ). getD (sets l o vs) j 0) (omega arith)
         ∙ sets-at vs l o (i + k) h (omega arith) ∙ sym (getD-take n (drop i vs) k 0 r ∙ getD-drop i vs k 0)
 
+-- a byte of a part, and how long a part is at most
+pub part-at : (b : List ℕ) (o n k : ℕ) → k < n → getD (part b o n) k 0 ≡ getD b (o + k) 0
+unfolding part
+part-at b o n k h = getD-take n (drop o b) k 0 h ∙ getD-drop o b k 0
+
+pub length-part : (b : List ℕ) (o n : ℕ) → length (part b o n) ≤ n
+unfolding part
+length-part b o n = simp length-take (omega arith)
+
 -- the two bytes of a number, read back
-pub u16-sets : (l : List ℕ) (o n : ℕ) → o + 2 ≤ length l → u16 (sets l o (le16 n)) o ≡ n % 65_536
-unfolding u16 le16
-u16-sets l o n h =
+pub le16At-sets : (l : List ℕ) (o n : ℕ) → o + 2 ≤ length l → le16At (sets l o (le16 n)) o ≡ n % 65_536
+unfolding le16At le16
+le16At-sets l o n h =
     let bytes = n % 256 ∷ n / 256 % 256 ∷ [] in
     let p : getD (sets l o bytes) o 0 ≡ n % 256 = ap (λ (k : ℕ). getD (sets l o bytes) k 0) (omega arith) ∙ sets-at bytes l o 0 h (omega arith) in
     let q : getD (sets l o bytes) (o + 1) 0 ≡ n / 256 % 256 = sets-at bytes l o 1 h (omega arith) in
     omega arith
 
+-- bytes store a number of 16 bits
+pub le16At-small : (b : List ℕ) (o : ℕ) → ((k : ℕ) → getD b k 0 < 256) → le16At b o < 65_536
+unfolding le16At
+le16At-small b o h = omega (arith, h o, h (o + 1))
+
 -- a text and the zeros after it
 pub length-padded : (t : List ℕ) (n : ℕ) → length t ≤ n → length (t ++ replicate (n - length t) 0) ≡ n
 length-padded t n h = simp (length-append, length-replicate) (omega arith)
+
+zeros-at : (n k : ℕ) → _≡_ {A = ℕ} (getD (replicate n 0) k 0) 0
+zeros-at zero k = refl
+zeros-at (suc n) zero = refl
+zeros-at (suc n) (suc k) = zeros-at n k
+
+pub padded-at : (t : List ℕ) (n k : ℕ) → getD (t ++ replicate n 0) k 0 ≡ getD t k 0
+padded-at [] n k = zeros-at n k
+padded-at (a ∷ t) n zero = refl
+padded-at (a ∷ t) n (suc k) = padded-at t n k
 
 -- ---- n bytes from o on are the same in two files
 
@@ -47,13 +71,13 @@ abbrev pub SameBytes : List ℕ → List ℕ → ℕ → ℕ → Type 0
 SameBytes b b′ o n = (k : ℕ) → o ≤ k → k < o + n → getD b′ k 0 ≡ getD b k 0
 
 module _ (b b′ : List ℕ) (o : ℕ) where
-  pub same-u16 : SameBytes b b′ o 2 → u16 b′ o ≡ u16 b o
-  unfolding u16
-  same-u16 s = rw (s o (omega arith) (omega arith), s (o + 1) (omega arith) (omega arith))
+  pub same-le16At : SameBytes b b′ o 2 → le16At b′ o ≡ le16At b o
+  unfolding le16At
+  same-le16At s = rw (s o (omega arith) (omega arith), s (o + 1) (omega arith) (omega arith))
 
-  pub same-u32 : SameBytes b b′ o 4 → u32 b′ o ≡ u32 b o
-  unfolding u32
-  same-u32 s = rw (s o (omega arith) (omega arith), s (o + 1) (omega arith) (omega arith), s (o + 2) (omega arith) (omega arith), s (o + 3) (omega arith) (omega arith))
+  pub same-le32At : SameBytes b b′ o 4 → le32At b′ o ≡ le32At b o
+  unfolding le32At
+  same-le32At s = rw (s o (omega arith) (omega arith), s (o + 1) (omega arith) (omega arith), s (o + 2) (omega arith) (omega arith), s (o + 3) (omega arith) (omega arith))
 
   pub same-part : (n : ℕ) → length b′ ≡ length b → SameBytes b b′ o n → part b′ o n ≡ part b o n
   unfolding part

@@ -1,11 +1,11 @@
 pub mod Refusals
+pub mod Bytes
+pub mod Chains
 pub mod LaidOut
 pub mod Acceptance
 pub mod Loops
 pub mod Outcomes
-pub mod Bytes
 pub mod Stores
 pub mod Allowed
 pub mod Unchanged
-pub mod EditedItem
 pub mod Stays

@@ -8,56 +8,40 @@ use lib.Seq.{drop-cons, drop-length}
 use native.Mathlib.Numerals.{add-one}
 use native.Mathlib.Omega.{arith}
 use borrow.Author.Tests.{eq-eqb, ne-eqb}
-use Rattle.sheet.specs.declared.Reach.{Reach}
-use Rattle.sheet.specs.declared.Reach.the-variants.{To, Off}
-use Rattle.sheet.specs.Fields.{u16, u32, fontCount, itemCount, fontAt, itemAt}
-use Rattle.sheet.specs.Check.{fontsEnd, slotsEnd, checkFont, zeros, checkItem, firstRefusal, fontRefusal, itemRefusal, checkFonts, checkItems}
+use Rattle.sheet.specs.declared.Reach.the-variants.{To, Misplaced}
+use Rattle.sheet.specs.Fields.{le16At, le32At, fontAt, itemAt}
+use Rattle.sheet.specs.Pieces.{fontPieces, slotPieces}
+use Rattle.sheet.specs.Check.{reach, checkFont, zeros, checkItem, firstRefusal, fontRefusal, itemRefusal}
 use Rattle.sheet.proofs.Refusals.{orElse-first}
 
 -- what is left of n after k is one more than after k + 1
 left-suc : (n k : ℕ) → k < n → n - k ≡ suc (n - suc k)
 left-suc n k h = omega arith
 
--- ---- the fonts' pieces
+-- ---- the pieces of a font, and of an item
 
-module _ (b : List ℕ) (m n from k p : ℕ) (i : fontsEnd b (n - k) k p ≡ fontsEnd b m 0 from) (h : k < n) (o atlas : ℕ) (eo : o ≡ fontAt k) (ea : atlas ≡ u32 b o) where
-  pub atlas-off : (atlas ≡ p → ⊥) → Off ≡ fontsEnd b m 0 from
-  unfolding fontsEnd
-  atlas-off t = rw (left-suc n k h, ← eo, ← ea, ne-eqb _ _ t) at i
+module _ (b : List ℕ) (k p o atlas : ℕ) (eo : o ≡ fontAt k) (ea : atlas ≡ le32At b o) where
+  pub atlas-off : (atlas ≡ p → ⊥) → reach (fontPieces b k) p ≡ Misplaced
+  unfolding fontPieces reach
+  atlas-off t = rw (← eo, ← ea, ne-eqb _ _ t)
 
-  module _ (t : atlas ≡ p) (size mapping : ℕ) (es : size ≡ u32 b (o + 4)) (em : mapping ≡ u32 b (o + 8)) where
-    pub mapping-off : (mapping ≡ p + size → ⊥) → Off ≡ fontsEnd b m 0 from
-    unfolding fontsEnd
-    mapping-off u = rw (left-suc n k h, ← eo, ← ea, ← es, ← em, eq-eqb _ _ t, ne-eqb _ _ u) at i
+  module _ (t : atlas ≡ p) (size mapping : ℕ) (es : size ≡ le32At b (o + 4)) (em : mapping ≡ le32At b (o + 8)) where
+    pub mapping-off : (mapping ≡ p + size → ⊥) → reach (fontPieces b k) p ≡ Misplaced
+    unfolding fontPieces reach
+    mapping-off u = rw (← eo, ← ea, ← es, ← em, eq-eqb _ _ t, ne-eqb _ _ u)
 
-    pub fonts-more : (length : ℕ) → length ≡ u16 b (o + 12) → mapping ≡ p + size → fontsEnd b (n - (k + 1)) (k + 1) (p + size + length) ≡ fontsEnd b m 0 from
-    unfolding fontsEnd
-    fonts-more length el u = rw add-one (rw (left-suc n k h, ← eo, ← ea, ← es, ← em, ← el, eq-eqb _ _ t, eq-eqb _ _ u) at i)
+    pub font-to : (length : ℕ) → length ≡ le16At b (o + 12) → mapping ≡ p + size → reach (fontPieces b k) p ≡ To (p + size + length)
+    unfolding fontPieces reach
+    font-to length el u = rw (← eo, ← ea, ← es, ← em, ← el, eq-eqb _ _ t, eq-eqb _ _ u)
 
-pub fonts-start : (b : List ℕ) (n p : ℕ) → n ≡ fontCount b → fontsEnd b (n - 0) 0 p ≡ fontsEnd b (fontCount b) 0 p
-fonts-start b n p e = ap (λ (m : ℕ). fontsEnd b m 0 p) (omega arith)
+module _ (b : List ℕ) (k p o slot : ℕ) (eo : o ≡ itemAt b k) (es : slot ≡ le32At b (o + 4)) where
+  pub slot-off : (slot ≡ p → ⊥) → reach (slotPieces b k) p ≡ Misplaced
+  unfolding slotPieces reach
+  slot-off t = rw (← eo, ← es, ne-eqb _ _ t)
 
-pub fonts-done : (b : List ℕ) (n k p : ℕ) (e : Reach) → n ≤ k → fontsEnd b (n - k) k p ≡ e → To p ≡ e
-unfolding fontsEnd
-fonts-done b n k p e h i = let z : n - k ≡ 0 = omega arith in rw z at i
-
--- ---- the slots
-
-module _ (b : List ℕ) (n k p : ℕ) (e : Reach) (h : k < n) (i : slotsEnd b (n - k) k p ≡ e) (o slot : ℕ) (eo : o ≡ itemAt b k) (es : slot ≡ u32 b (o + 4)) where
-  pub slots-more : (size : ℕ) → size ≡ u16 b (o + 8) → slot ≡ p → slotsEnd b (n - (k + 1)) (k + 1) (p + size) ≡ e
-  unfolding slotsEnd
-  slots-more size ez t = rw add-one (rw (left-suc n k h, ← eo, ← es, ← ez, eq-eqb _ _ t) at i)
-
-  pub slot-off : (slot ≡ p → ⊥) → Off ≡ e
-  unfolding slotsEnd
-  slot-off t = rw (left-suc n k h, ← eo, ← es, ne-eqb _ _ t) at i
-
-pub slots-start : (b : List ℕ) (n p : ℕ) → n ≡ itemCount b → slotsEnd b (n - 0) 0 p ≡ slotsEnd b (itemCount b) 0 p
-slots-start b n p e = ap (λ (m : ℕ). slotsEnd b m 0 p) (omega arith)
-
-pub slots-done : (b : List ℕ) (n k p : ℕ) (e : Reach) → n ≤ k → slotsEnd b (n - k) k p ≡ e → To p ≡ e
-unfolding slotsEnd
-slots-done b n k p e h i = let z : n - k ≡ 0 = omega arith in rw z at i
+  pub slot-to : (size : ℕ) → size ≡ le16At b (o + 8) → slot ≡ p → reach (slotPieces b k) p ≡ To (p + size)
+  unfolding slotPieces reach
+  slot-to size ez t = rw (← eo, ← es, ← ez, eq-eqb _ _ t)
 
 -- ---- zeros
 
@@ -89,16 +73,8 @@ pub refusal-done : (f : ℕ → ℕ) (n k e : ℕ) → n ≤ k → firstRefusal 
 unfolding firstRefusal
 refusal-done f n k e h i = let z : n - k ≡ 0 = omega arith in rw z at i
 
-refusal-start : (f : ℕ → ℕ) (n m : ℕ) → n ≡ m → firstRefusal f (n - 0) 0 ≡ firstRefusal f m 0
+pub refusal-start : (f : ℕ → ℕ) (n m : ℕ) → n ≡ m → firstRefusal f (n - 0) 0 ≡ firstRefusal f m 0
 refusal-start f n m e = ap (λ (k : ℕ). firstRefusal f k 0) (omega arith)
-
-pub check-fonts-start : (b : List ℕ) (n : ℕ) → n ≡ fontCount b → firstRefusal (fontRefusal b) (n - 0) 0 ≡ checkFonts b
-unfolding checkFonts
-check-fonts-start b n e = refusal-start (fontRefusal b) n (fontCount b) e
-
-pub check-items-start : (b : List ℕ) (n : ℕ) → n ≡ itemCount b → firstRefusal (itemRefusal b) (n - 0) 0 ≡ checkItems b
-unfolding checkItems
-check-items-start b n e = refusal-start (itemRefusal b) n (itemCount b) e
 
 pub font-refusal-is : (b : List ℕ) (k o r : ℕ) → o ≡ fontAt k → r ≡ checkFont b o → r ≡ fontRefusal b k
 unfolding fontRefusal

@@ -1,11 +1,10 @@
 -- What tests in a row tell: where the refusal is 0 each test holds, and a refusal that is not 0 is the first. Assumes nothing.
 use Prim.Native.Nat.{ℕ, zero, suc}
 use mathlib.Core.Path.{_≡_, refl}
-use mathlib.Core.Bool.{Bool, true, false}
+use mathlib.Core.Bool.{Bool, true, false, and-eq-true-iff}
 use mathlib.Core.List.{List, [], _∷_}
 use native.Mathlib.Omega.{arith}
 use lib.ListN.{getD}
-use Rattle.geometry.proofs.Rectangles.{and-true}
 use Rattle.characters.specs.Refusal.{need, orElse, all}
 
 pub need-zero : (t : Bool) (n rest : ℕ) → need t (suc n) rest ≡ 0 → (t ≡ true) × (rest ≡ 0)
@@ -23,5 +22,5 @@ orElse-first (suc n) rest h = refl
 -- test number i of a list of tests that all hold
 pub all-true : (l : List Bool) → all l ≡ true → (i : ℕ) → getD l i true ≡ true
 all-true [] h i = refl
-all-true (t ∷ ts) h zero = and-true t (all ts) h .0
-all-true (t ∷ ts) h (suc i) = all-true ts (and-true t (all ts) h .1) i
+all-true (t ∷ ts) h zero = and-eq-true-iff t (all ts) .0 h .0
+all-true (t ∷ ts) h (suc i) = all-true ts (and-eq-true-iff t (all ts) .0 h .1) i

@@ -1,49 +1,29 @@
 -- An accepted edit of an accepted sheet leaves an accepted sheet: each group of tests gives what it gave before, and the edited
 -- item passes its tests. Assumes nothing.
-use Prim.Native.Nat.{ℕ, zero, suc, _+_, _-_, _≤_, _<_}
-use mathlib.Core.Path.{_≡_, refl}
+use Prim.Native.Nat.{ℕ, zero, suc, _+_, _≤_, _<_}
+use mathlib.Core.Path.{_≡_, refl, _∙_}
 use mathlib.Core.Bool.{Bool, true, false}
 use mathlib.Core.List.{List}
 use lib.Dec.{eqb}
-use lib.ListN.{length, getD, replicate}
+use lib.ListN.{length, getD}
 use native.Mathlib.Omega.{arith}
-use borrow.Author.Tests.{eqb-true, eqb-false, le-leb, lt-ltb, eq-eqb}
+use borrow.Author.Tests.{eqb-true, eqb-false}
 use Rattle.characters.specs.Utf8.{wellFormed}
-use Rattle.sheet.specs.declared.Reach.{Reach}
-use Rattle.sheet.specs.declared.Reach.the-variants.{To, Off}
+use Rattle.limits.specs.Limits.{goodModes}
+use Rattle.limits.proofs.Modes.{known-modes, modes-known}
 use Rattle.sheet.specs.Fields
-use Rattle.sheet.specs.Fields.{part, fontCount, itemCount, fontAt, itemAt, piecesAt, slotOffset, slotSize, textLength}
-use Rattle.limits.specs.Limits.{goodModes, itemLimits}
-use Rattle.sheet.specs.Check.{checkHeader, fontsEnd, slotsEnd, thenSlots, layoutTests, checkFont, itemNumbers, zeros, checkItem, firstRefusal, fontRefusal, itemRefusal, checkFonts, checkItems, check}
-use Rattle.sheet.specs.Accepted.{ItemIn, ItemFits, Accepted}
+use Rattle.sheet.specs.Fields.{part, fontCount, itemCount, fontAt, itemAt, slotOffset, slotSize, textLength}
+use Rattle.sheet.specs.Pieces.{fontPieces, slotPieces, pieces}
+use Rattle.sheet.specs.Conforming.{ItemFits}
+use Rattle.sheet.specs.Check.{headerFields, checkHeader, layoutTests, fontFields, checkFont, firstRefusal, fontRefusal, itemRefusal, checkFonts, checkItems, check}
+use Rattle.sheet.specs.Accepted.{ItemIn, Accepted}
 use Rattle.sheet.specs.Edits.{Edit, newText, newPlace, newStyle, itemNumber, refusal, biased, putText, putPlace, putStyle, edited}
-use Rattle.sheet.proofs.Acceptance.{passed, accepted}
-use Rattle.sheet.proofs.Bytes.{SameBytes, same-u16, same-u32, same-part}
+use Rattle.sheet.proofs.Chains.{same-piecesOf}
+use Rattle.sheet.proofs.Acceptance.{item-passes, none-refused, passed, accepted}
+use Rattle.sheet.proofs.Bytes.{SameBytes, same-le16At, same-le32At, same-part}
 use Rattle.sheet.proofs.Stores.{length-putPlace, length-putStyle, putText-other, putPlace-other, putStyle-other, putText-length, putText-text, putText-tail, putStyle-at}
 use Rattle.sheet.proofs.Allowed.{text-allowed, style-allowed, listed, unwritten, same-length}
 use Rattle.sheet.proofs.Unchanged.{same-head, same-frameWidth, same-frameHeight, same-fontCount, same-itemCount, same-record, same-slot, same-slot-fields, same-mapping}
-
--- an item whose fields fit is not refused
-fits-checked : (b : List ℕ) (o : ℕ) → ItemFits b o → checkItem b o ≡ 0
-unfolding checkItem itemNumbers itemLimits
-fits-checked b o f = rw (
-  le-leb (slotSize b o) 256 (f .slot-small),
-  le-leb (textLength b o) (slotSize b o) (f .text-in),
-  lt-ltb (Fields.fontNumber b o) (fontCount b) (f .font-there),
-  f .modes-known,
-  le-leb (Fields.alignmentCode b o) 2 (f .alignment-known),
-  le-leb (Fields.baselineCode b o) 3 (f .baseline-known),
-  le-leb (Fields.heightKind b o) 1 (f .kind-known),
-  le-leb (Fields.heightValue b o) 1_000 (f .height-small),
-  eq-eqb (Fields.itemZero b o) 0 (f .zero-zero),
-  f .tail-zero,
-  f .text-well,
-)
-
-zeros-replicate : (n : ℕ) → zeros (replicate n 0) ≡ true
-unfolding zeros
-zeros-replicate zero = refl
-zeros-replicate (suc n) = zeros-replicate n
 
 -- ---- the item whose record stands at o, in a file b and in a file b′
 
@@ -54,28 +34,33 @@ modes b o = goodModes (Fields.textMode b o) (Fields.backgroundMode b o) (Fields.
 record Changed (b b′ : List ℕ) (o : ℕ) : Type 0 where
   text-in : textLength b′ o ≤ slotSize b o
   modes-known : modes b′ o ≡ true
-  tail-zero : zeros (part b′ (slotOffset b o + textLength b′ o) (slotSize b o - textLength b′ o)) ≡ true
+  tail-zero : (k : ℕ) → textLength b′ o ≤ k → k < slotSize b o → getD b′ (slotOffset b o + k) 0 ≡ 0
   text-well : wellFormed (part b′ (slotOffset b o) (textLength b′ o)) ≡ true
 
 module _ (b b′ : List ℕ) (o : ℕ) (f : ItemFits b o) where
   same-modes : SameBytes b b′ (o + 13) 8 → modes b′ o ≡ true
-  same-modes s = rw (s (o + 13) (omega arith) (omega arith), s (o + 15) (omega arith) (omega arith), s (o + 17) (omega arith) (omega arith), s (o + 19) (omega arith) (omega arith)) (f .modes-known)
+  same-modes s = rw (s (o + 13) (omega arith) (omega arith), s (o + 15) (omega arith) (omega arith), s (o + 17) (omega arith) (omega arith), s (o + 19) (omega arith) (omega arith))
+      (modes-known _ _ _ _ (f .text-mode-known) (f .background-mode-known) (f .underline-mode-known) (f .strikethrough-mode-known))
 
   -- the other fields as before
   changed-fits : fontCount b′ ≡ fontCount b → SameBytes b b′ (o + 4) 6 → SameBytes b b′ (o + 12) 1 → SameBytes b b′ (o + 21) 7 → Changed b b′ o → ItemFits b′ o
   changed-fits n slot number rest c =
-      let offset = same-u32 b b′ (o + 4) (λ k p q. slot k (omega arith) (omega arith)) in
-      let size = same-u16 b b′ (o + 8) (λ k p q. slot k (omega arith) (omega arith)) in
+      let offset = same-le32At b b′ (o + 4) (λ k p q. slot k (omega arith) (omega arith)) in
+      let size = same-le16At b b′ (o + 8) (λ k p q. slot k (omega arith) (omega arith)) in
+      let m = known-modes _ _ _ _ (c .modes-known) in
       record {
         slot-small = rw size (f .slot-small);
         text-in = rw size (c .text-in);
         font-there = rw (number (o + 12) (omega arith) (omega arith), n) (f .font-there);
-        modes-known = c .modes-known;
+        text-mode-known = m .0;
+        background-mode-known = m .1;
+        underline-mode-known = m .2;
+        strikethrough-mode-known = m .3;
         alignment-known = rw (rest (o + 21) (omega arith) (omega arith)) (f .alignment-known);
         baseline-known = rw (rest (o + 22) (omega arith) (omega arith)) (f .baseline-known);
         kind-known = rw (rest (o + 23) (omega arith) (omega arith)) (f .kind-known);
-        height-small = rw (same-u16 b b′ (o + 24) (λ k p q. rest k (omega arith) (omega arith))) (f .height-small);
-        zero-zero = rw (same-u16 b b′ (o + 26) (λ k p q. rest k (omega arith) (omega arith))) (f .zero-zero);
+        height-small = rw (same-le16At b b′ (o + 24) (λ k p q. rest k (omega arith) (omega arith))) (f .height-small);
+        zero-field = rw (same-le16At b b′ (o + 26) (λ k p q. rest k (omega arith) (omega arith))) (f .zero-field);
         tail-zero = rw (offset, size) (c .tail-zero);
         text-well = rw offset (c .text-well);
       }
@@ -83,12 +68,12 @@ module _ (b b′ : List ℕ) (o : ℕ) (f : ItemFits b o) where
   -- the text's length and the slot as before
   same-text : length b′ ≡ length b → SameBytes b b′ (o + 10) 2 → SameBytes b b′ (slotOffset b o) (slotSize b o) → modes b′ o ≡ true → Changed b b′ o
   same-text l n s m =
-      let size = same-u16 b b′ (o + 10) n in
+      let size = same-le16At b b′ (o + 10) n in
       let t = f .text-in in
       record {
         text-in = rw size (f .text-in);
         modes-known = m;
-        tail-zero = rw (size, same-part b b′ (slotOffset b o + textLength b o) (slotSize b o - textLength b o) l (λ k p q. s k (omega arith) (omega arith))) (f .tail-zero);
+        tail-zero = λ k p q. s (slotOffset b o + k) (omega arith) (omega arith) ∙ f .tail-zero k (omega arith) q;
         text-well = rw (size, same-part b b′ (slotOffset b o) (textLength b o) l (λ k p q. s k (omega arith) (omega arith))) (f .text-well);
       }
 
@@ -100,7 +85,7 @@ module _ (b : List ℕ) (o : ℕ) (within : ItemIn b o) (after : o + 28 ≤ slot
       record {
         text-in = rw size short;
         modes-known = same-modes b (putText b o t) o f (λ k p q. putText-other b o t short k (omega arith) (omega arith));
-        tail-zero = rw (size, putText-tail b o t short within) (zeros-replicate (slotSize b o - length t));
+        tail-zero = rw size (putText-tail b o t short within);
         text-well = rw (size, putText-text b o t short within) well;
       }
 
@@ -121,11 +106,6 @@ unfolding firstRefusal
 same-firstRefusal f g zero k h = refl
 same-firstRefusal f g (suc n) k h = rw (h k (omega arith) (omega arith), same-firstRefusal f g n (suc k) (λ j l m. h j (omega arith) (omega arith)))
 
-zero-firstRefusal : (f : ℕ → ℕ) (n k : ℕ) → ((j : ℕ) → j < k + n → f j ≡ 0) → firstRefusal f n k ≡ 0
-unfolding firstRefusal
-zero-firstRefusal f zero k h = refl
-zero-firstRefusal f (suc n) k h = rw (h k (omega arith), zero-firstRefusal f n (suc k) (λ j m. h j (omega arith)))
-
 -- ---- one accepted edit of an accepted sheet
 
 module _ (b : List ℕ) (e : Edit) (g : Accepted b) (a : refusal b e ≡ 0) where
@@ -136,63 +116,55 @@ module _ (b : List ℕ) (e : Edit) (g : Accepted b) (a : refusal b e ≡ 0) wher
   fonts = same-fontCount b e g a
 
   header-stays : checkHeader (edited b e) ≡ checkHeader b
-  unfolding checkHeader
+  unfolding checkHeader headerFields
   header-stays = rw (
     same-length b e,
-    same-u32 b (edited b e) 20 (λ k p q. head k (omega arith)),
-    same-u16 b (edited b e) 10 (λ k p q. head k (omega arith)),
-    same-u16 b (edited b e) 0 (λ k p q. head k (omega arith)),
+    same-le32At b (edited b e) 20 (λ k p q. head k (omega arith)),
+    same-le16At b (edited b e) 10 (λ k p q. head k (omega arith)),
+    same-le16At b (edited b e) 0 (λ k p q. head k (omega arith)),
     same-frameWidth b e g a,
     same-frameHeight b e g a,
     fonts,
     same-itemCount b e g a,
   )
 
-  fontsEnd-stays : (n k p : ℕ) → k + n ≤ fontCount b → fontsEnd (edited b e) n k p ≡ fontsEnd b n k p
-  unfolding fontsEnd
-  fontsEnd-stays zero k p h = refl
-  fontsEnd-stays (suc n) k p h = rw (
-    same-u32 b (edited b e) (fontAt k) (λ j q r. head j (omega arith)),
-    same-u32 b (edited b e) (fontAt k + 8) (λ j q r. head j (omega arith)),
-    same-u32 b (edited b e) (fontAt k + 4) (λ j q r. head j (omega arith)),
-    same-u16 b (edited b e) (fontAt k + 12) (λ j q r. head j (omega arith)),
-    fontsEnd-stays n (suc k) (p + Fields.atlasLength b (fontAt k) + Fields.mappingLength b (fontAt k)) (omega arith),
-  )
-
-  slotsEnd-stays : (n k p : ℕ) → k + n ≤ itemCount b → slotsEnd (edited b e) n k p ≡ slotsEnd b n k p
-  unfolding slotsEnd
-  slotsEnd-stays zero k p h = refl
-  slotsEnd-stays (suc n) k p h = rw (
+  pieces-stay : pieces (edited b e) ≡ pieces b
+  unfolding pieces fontPieces slotPieces
+  pieces-stay = rw (
     fonts,
-    same-u32 b (edited b e) (itemAt b k + 4) (λ j q r. same-slot-fields b e g a k (omega arith) j (omega arith) (omega arith)),
-    same-u16 b (edited b e) (itemAt b k + 8) (λ j q r. same-slot-fields b e g a k (omega arith) j (omega arith) (omega arith)),
-    slotsEnd-stays n (suc k) (p + slotSize b (itemAt b k)) (omega arith),
+    same-itemCount b e g a,
+    same-piecesOf (fontPieces (edited b e)) (fontPieces b) (fontCount b) 0 (λ k p q. rw (
+      same-le32At b (edited b e) (fontAt k) (λ j r s. head j (omega arith)),
+      same-le32At b (edited b e) (fontAt k + 4) (λ j r s. head j (omega arith)),
+      same-le32At b (edited b e) (fontAt k + 8) (λ j r s. head j (omega arith)),
+      same-le16At b (edited b e) (fontAt k + 12) (λ j r s. head j (omega arith)),
+    )),
+    same-piecesOf (slotPieces (edited b e)) (slotPieces b) (itemCount b) 0 (λ k p q. rw (
+      fonts,
+      same-le32At b (edited b e) (itemAt b k + 4) (λ j r s. same-slot-fields b e g a k (omega arith) j (omega arith) (omega arith)),
+      same-le16At b (edited b e) (itemAt b k + 8) (λ j r s. same-slot-fields b e g a k (omega arith) j (omega arith) (omega arith)),
+    )),
   )
-
-  thenSlots-stays : (r : Reach) → thenSlots (edited b e) r ≡ thenSlots b r
-  thenSlots-stays Off = refl
-  thenSlots-stays (To p) = rw (same-itemCount b e g a) (slotsEnd-stays (itemCount b) 0 p (omega arith))
 
   layout-stays : layoutTests (edited b e) ≡ layoutTests b
   unfolding layoutTests
   layout-stays = rw (
-    same-u32 b (edited b e) 12 (λ k p q. head k (omega arith)),
-    same-u32 b (edited b e) 16 (λ k p q. head k (omega arith)),
+    same-le32At b (edited b e) 12 (λ k p q. head k (omega arith)),
+    same-le32At b (edited b e) 16 (λ k p q. head k (omega arith)),
     fonts,
     same-itemCount b e g a,
     same-length b e,
-    fontsEnd-stays (fontCount b) 0 (piecesAt b) (omega arith),
-    thenSlots-stays (fontsEnd b (fontCount b) 0 (piecesAt b)),
+    pieces-stay,
   )
 
   font-stays : (k : ℕ) → k < fontCount b → fontRefusal (edited b e) k ≡ fontRefusal b k
-  unfolding fontRefusal checkFont
+  unfolding fontRefusal checkFont fontFields
   font-stays k h = rw (
     head (fontAt k + 18) (omega arith),
     head (fontAt k + 19) (omega arith),
     head (fontAt k + 20) (omega arith),
-    same-u16 b (edited b e) (fontAt k + 16) (λ j q r. head j (omega arith)),
-    same-u16 b (edited b e) (fontAt k + 26) (λ j q r. head j (omega arith)),
+    same-le16At b (edited b e) (fontAt k + 16) (λ j q r. head j (omega arith)),
+    same-le16At b (edited b e) (fontAt k + 26) (λ j q r. head j (omega arith)),
     same-mapping b e g a k h,
   )
 
@@ -231,11 +203,11 @@ module _ (b : List ℕ) (e : Edit) (g : Accepted b) (a : refusal b e ≡ 0) wher
 
   item-stays : (j : ℕ) → j < itemCount b → itemRefusal (edited b e) j ≡ 0
   unfolding itemRefusal
-  item-stays j h = rw fonts (fits-checked (edited b e) (itemAt b j) (fits-after j h))
+  item-stays j h = rw fonts (item-passes (edited b e) (itemAt b j) (fits-after j h))
 
   items-stay : checkItems (edited b e) ≡ 0
   unfolding checkItems
-  items-stay = rw (same-itemCount b e g a) (zero-firstRefusal (itemRefusal (edited b e)) (itemCount b) 0 (λ j h. item-stays j (omega arith)))
+  items-stay = rw (same-itemCount b e g a) (none-refused (itemRefusal (edited b e)) (itemCount b) 0 (λ j h. item-stays j (omega arith)))
 
 pub stays : (b : List ℕ) (e : Edit) → check b ≡ 0 → refusal b e ≡ 0 → check (edited b e) ≡ 0
 unfolding check

@@ -1,14 +1,18 @@
 -- Laws of the three stores in the item whose record stands at o: what is read back, and what each leaves elsewhere. Assumes nothing.
-use Prim.Native.Nat.{ℕ, _+_, _-_, _%_, _≤_, _<_}
+use Prim.Native.Nat.{ℕ, suc, _+_, _-_, _%_, _≤_, _<_}
 use mathlib.Core.Path.{_≡_, _∙_, ap}
+use mathlib.Core.Bool.{true}
 use mathlib.Core.List.{List, _++_}
-use lib.ListN.{length, getD, take, replicate, length-replicate}
-use lib.Seq.{sets, length-sets, drop-append-seam, take-append-seam, take-all}
+use lib.IntN.{ℤ, pos, negsuc}
+use lib.ListN.{length, getD, replicate, List·getD-eq-default}
+use lib.Seq.{sets, length-sets, take-append-seam}
 use native.Mathlib.Omega.{arith}
-use Rattle.sheet.specs.Fields.{u16, part, le16, slotOffset, slotSize, textLengthAt, textLength, styleAt}
+use borrow.Author.Tests.{ltb-true, lt-ltb, le-ltb}
+use Rattle.geometry.specs.Layer.{origin}
+use Rattle.sheet.specs.Fields.{le16At, part, le16, coordinate, slotOffset, slotSize, textLengthAt, textLength, styleAt}
 use Rattle.sheet.specs.Accepted.{ItemIn}
-use Rattle.sheet.specs.Edits.{putText, putPlace, putStyle}
-use Rattle.sheet.proofs.Bytes.{sets-other, sets-at, sets-part, u16-sets, length-padded, same-u16}
+use Rattle.sheet.specs.Edits.{inRange, biased, putText, putPlace, putStyle}
+use Rattle.sheet.proofs.Bytes.{sets-other, sets-at, sets-part, le16At-sets, length-padded, padded-at, same-le16At}
 
 -- ---- lengths
 
@@ -41,13 +45,9 @@ module _ (b : List ℕ) (o : ℕ) (t : List ℕ) (short : length t ≤ slotSize 
     room : slotOffset b o + length padded ≤ length resized
     room = omega (arith, size, length-sets b (textLengthAt o) (le16 (length t)), within .slot-in)
 
-    pub putText-tail : part (putText b o t) (slotOffset b o + length t) (slotSize b o - length t) ≡ replicate (slotSize b o - length t) 0
+    pub putText-tail : (k : ℕ) → length t ≤ k → k < slotSize b o → getD (putText b o t) (slotOffset b o + k) 0 ≡ 0
     unfolding putText
-    putText-tail =
-        let n = slotSize b o - length t in
-        sets-part padded resized (slotOffset b o) (length t) n room (omega (arith, size))
-        ∙ ap (take n) (drop-append-seam t (replicate n 0))
-        ∙ take-all n (replicate n 0) (omega (arith, length-replicate {A = ℕ} n 0))
+    putText-tail k p q = sets-at padded resized (slotOffset b o) k room (omega (arith, size)) ∙ padded-at t (slotSize b o - length t) k ∙ List·getD-eq-default t 0 p
 
     pub putText-text : part (putText b o t) (slotOffset b o) (length t) ≡ t
     unfolding putText
@@ -59,8 +59,8 @@ module _ (b : List ℕ) (o : ℕ) (t : List ℕ) (short : length t ≤ slotSize 
     pub putText-length : o + 28 ≤ slotOffset b o → slotSize b o ≤ 256 → textLength (putText b o t) o ≡ length t
     unfolding putText
     putText-length after small =
-        same-u16 resized (putText b o t) (textLengthAt o) (λ k p q. sets-other padded resized (slotOffset b o) k (omega arith))
-        ∙ u16-sets b (textLengthAt o) (length t) (omega (arith, within .record-in))
+        same-le16At resized (putText b o t) (textLengthAt o) (λ k p q. sets-other padded resized (slotOffset b o) k (omega arith))
+        ∙ le16At-sets b (textLengthAt o) (length t) (omega (arith, within .record-in))
         ∙ omega arith
 
   pub putText-other : (k : ℕ) → (textLengthAt o ≤ k → k < textLengthAt o + 2 → ⊥) → (slotOffset b o ≤ k → k < slotOffset b o + slotSize b o → ⊥) → getD (putText b o t) k 0 ≡ getD b k 0
@@ -71,17 +71,31 @@ module _ (b : List ℕ) (o : ℕ) (t : List ℕ) (short : length t ≤ slotSize 
 -- ---- a new place
 
 module _ (b : List ℕ) (o x y : ℕ) where
-  pub putPlace-x : o + 28 ≤ length b → u16 (putPlace b o x y) o ≡ x % 65_536
+  pub putPlace-x : o + 28 ≤ length b → le16At (putPlace b o x y) o ≡ x % 65_536
   unfolding putPlace le16
-  putPlace-x within = same-u16 (sets b o (le16 x)) (putPlace b o x y) o (λ k p q. sets-other (le16 y) (sets b o (le16 x)) (o + 2) k (omega arith)) ∙ u16-sets b o x (omega arith)
+  putPlace-x within = same-le16At (sets b o (le16 x)) (putPlace b o x y) o (λ k p q. sets-other (le16 y) (sets b o (le16 x)) (o + 2) k (omega arith)) ∙ le16At-sets b o x (omega arith)
 
-  pub putPlace-y : o + 28 ≤ length b → u16 (putPlace b o x y) (o + 2) ≡ y % 65_536
+  pub putPlace-y : o + 28 ≤ length b → le16At (putPlace b o x y) (o + 2) ≡ y % 65_536
   unfolding putPlace
-  putPlace-y within = u16-sets (sets b o (le16 x)) (o + 2) y (omega (arith, length-sets b o (le16 x)))
+  putPlace-y within = le16At-sets (sets b o (le16 x)) (o + 2) y (omega (arith, length-sets b o (le16 x)))
 
   pub putPlace-other : (k : ℕ) → (o ≤ k → k < o + 4 → ⊥) → getD (putPlace b o x y) k 0 ≡ getD b k 0
   unfolding putPlace le16
   putPlace-other k off = sets-other (le16 y) (sets b o (le16 x)) (o + 2) k (λ p q. off (omega arith) (omega arith)) ∙ sets-other (le16 x) b o k (λ p q. off (omega arith) (omega arith))
+
+-- ---- a place stored is the place read
+
+pub coordinate-biased : (z : ℤ) → inRange z ≡ true → coordinate (biased z % 65_536) ≡ biased z
+unfolding inRange coordinate biased
+coordinate-biased (pos n) h =
+    let l = ltb-true n 32_768 h in
+    rw (lt-ltb ((origin + n) % 65_536) 32_768 (omega arith)) (omega arith)
+coordinate-biased (negsuc n) h =
+    let l = ltb-true n 32_768 h in
+    rw (le-ltb ((origin - suc n) % 65_536) 32_768 (omega arith)) (omega arith)
+
+pub place-read : (z : ℤ) (l : List ℕ) (o : ℕ) → inRange z ≡ true → o + 2 ≤ length l → coordinate (le16At (sets l o (le16 (biased z))) o) ≡ biased z
+place-read z l o h r = rw (le16At-sets l o (biased z) r) (coordinate-biased z h)
 
 -- ---- a new style
 

@@ -1,73 +1,20 @@
--- What one accepted edit of an accepted sheet leaves as it was: the header, the fonts, and every other item. Assumes nothing.
+-- What one accepted edit of an accepted sheet leaves as it was, in bytes: the header, the fonts, and every other item. Assumes nothing.
 use Prim.Native.Nat.{ℕ, _+_, _≤_, _<_}
 use mathlib.Core.Path.{_≡_, refl}
 use mathlib.Core.Bool.{Bool, true, false}
 use mathlib.Core.Logic.{_⊎_, inl, inr}
 use mathlib.Core.List.{List}
 use lib.Dec.{eqb}
-use lib.ListN.{length, getD}
+use lib.ListN.{getD}
 use native.Mathlib.Omega.{arith}
 use native.Mathlib.Decide.{decLt}
 use borrow.Author.Tests.{eqb-true, eqb-false}
 use Rattle.sheet.specs.Fields
-use Rattle.sheet.specs.Fields.{frameWidth, frameHeight, paper, fontCount, itemCount, fontAt, itemAt, piecesAt, slotOffset, slotSize, textLength}
+use Rattle.sheet.specs.Fields.{part, frameWidth, frameHeight, paper, fontCount, itemCount, fontAt, itemAt, piecesAt, slotOffset, slotSize}
 use Rattle.sheet.specs.Accepted.{Accepted}
-use Rattle.sheet.specs.Records.{monoFont, font, monoTextStyle, textStyle, itemOf, item, itemFont}
 use Rattle.sheet.specs.Edits.{Edit, itemNumber, refusal, edited}
-use Rattle.sheet.proofs.Bytes.{SameBytes, same-u16, same-u32, same-part}
+use Rattle.sheet.proofs.Bytes.{SameBytes, same-le16At, same-le32At, same-part}
 use Rattle.sheet.proofs.Allowed.{listed, unwritten, same-length}
-
--- ---- records read from bytes that are the same
-
-module _ (b b′ : List ℕ) (o : ℕ) where
-  pub same-monoFont : SameBytes b b′ o 28 → monoFont b′ o ≡ monoFont b o
-  unfolding monoFont
-  same-monoFont s = rw (
-    same-u16 b b′ (o + 16) (λ k p q. s k (omega arith) (omega arith)),
-    s (o + 18) (omega arith) (omega arith),
-    s (o + 19) (omega arith) (omega arith),
-    same-u16 b b′ (o + 14) (λ k p q. s k (omega arith) (omega arith)),
-    s (o + 20) (omega arith) (omega arith),
-    s (o + 21) (omega arith) (omega arith),
-    s (o + 22) (omega arith) (omega arith),
-    s (o + 23) (omega arith) (omega arith),
-    s (o + 24) (omega arith) (omega arith),
-    s (o + 25) (omega arith) (omega arith),
-  )
-
-  pub same-monoTextStyle : SameBytes b b′ (o + 13) 8 → monoTextStyle b′ o ≡ monoTextStyle b o
-  unfolding monoTextStyle
-  same-monoTextStyle s = rw (
-    s (o + 13) (omega arith) (omega arith),
-    s (o + 14) (omega arith) (omega arith),
-    s (o + 15) (omega arith) (omega arith),
-    s (o + 16) (omega arith) (omega arith),
-    s (o + 17) (omega arith) (omega arith),
-    s (o + 18) (omega arith) (omega arith),
-    s (o + 19) (omega arith) (omega arith),
-    s (o + 20) (omega arith) (omega arith),
-  )
-
-  pub same-textStyle : SameBytes b b′ (o + 21) 7 → textStyle b′ o ≡ textStyle b o
-  unfolding textStyle
-  same-textStyle s = rw (
-    s (o + 21) (omega arith) (omega arith),
-    s (o + 22) (omega arith) (omega arith),
-    s (o + 23) (omega arith) (omega arith),
-    same-u16 b b′ (o + 24) (λ k p q. s k (omega arith) (omega arith)),
-  )
-
-  same-itemOf : length b′ ≡ length b → SameBytes b b′ o 28 → SameBytes b b′ (slotOffset b o) (textLength b o) → itemOf b′ o ≡ itemOf b o
-  unfolding itemOf
-  same-itemOf l s w = rw (
-    same-u32 b b′ (o + 4) (λ k p q. s k (omega arith) (omega arith)),
-    same-u16 b b′ (o + 10) (λ k p q. s k (omega arith) (omega arith)),
-    same-part b b′ (slotOffset b o) (textLength b o) l w,
-    same-u16 b b′ o (λ k p q. s k (omega arith) (omega arith)),
-    same-u16 b b′ (o + 2) (λ k p q. s k (omega arith) (omega arith)),
-    same-monoTextStyle (λ k p q. s k (omega arith) (omega arith)),
-    same-textStyle (λ k p q. s k (omega arith) (omega arith)),
-  )
 
 less-or-more : (i j : ℕ) → (j ≡ i → ⊥) → (j < i) ⊎ (i < j)
 less-or-more i j d = elim (decLt j i) [ yes l ↦ inl l | no l ↦ inr (elim (decLt i j) [ yes m ↦ m | no m ↦ absurd (d (omega arith)) ]) ]
@@ -84,11 +31,11 @@ module _ (b : List ℕ) (e : Edit) (g : Accepted b) (a : refusal b e ≡ 0) wher
 
   pub same-frameWidth : frameWidth (edited b e) ≡ frameWidth b
   unfolding frameWidth
-  same-frameWidth = same-u16 b (edited b e) 2 (λ k p q. same-head k (omega arith))
+  same-frameWidth = same-le16At b (edited b e) 2 (λ k p q. same-head k (omega arith))
 
   pub same-frameHeight : frameHeight (edited b e) ≡ frameHeight b
   unfolding frameHeight
-  same-frameHeight = same-u16 b (edited b e) 4 (λ k p q. same-head k (omega arith))
+  same-frameHeight = same-le16At b (edited b e) 4 (λ k p q. same-head k (omega arith))
 
   pub same-paper : paper (edited b e) ≡ paper b
   unfolding paper
@@ -100,7 +47,7 @@ module _ (b : List ℕ) (e : Edit) (g : Accepted b) (a : refusal b e ≡ 0) wher
 
   pub same-itemCount : itemCount (edited b e) ≡ itemCount b
   unfolding itemCount
-  same-itemCount = same-u16 b (edited b e) 8 (λ k p q. same-head k (omega arith))
+  same-itemCount = same-le16At b (edited b e) 8 (λ k p q. same-head k (omega arith))
 
   -- what stands between the records and the item's slot, and after it
   same-before-slot : (k : ℕ) → piecesAt b ≤ k → k < slotOffset b (itemAt b (itemNumber e)) → getD (edited b e) k 0 ≡ getD b k 0
@@ -132,36 +79,22 @@ module _ (b : List ℕ) (e : Edit) (g : Accepted b) (a : refusal b e ≡ 0) wher
       go true u = let z = eqb-true j (itemNumber e) u in unwritten b e a k (let l = listed b e a in let s = slot-after in omega arith)
       go false u = same-record j h (eqb-false j (itemNumber e) u) k (omega arith) (omega arith)
 
-  -- a font's pieces, and the font
+  -- a piece that stands before the slots, and so a font's
+  same-piece : (p n : ℕ) → piecesAt b ≤ p → p + n ≤ slotOffset b (itemAt b (itemNumber e)) → part (edited b e) p n ≡ part b p n
+  same-piece p n after before = same-part b (edited b e) p n (same-length b e) (λ j q r. same-before-slot j (omega arith) (omega arith))
+
   pub same-mapping : (k : ℕ) → k < fontCount b → Fields.mappingBytes (edited b e) (fontAt k) ≡ Fields.mappingBytes b (fontAt k)
-  same-mapping k h = rw (same-u32 b (edited b e) (fontAt k + 8) (λ j q r. same-head j (omega arith)), same-u16 b (edited b e) (fontAt k + 12) (λ j q r. same-head j (omega arith)))
-      (same-part b (edited b e) (Fields.mappingOffset b (fontAt k)) (Fields.mappingLength b (fontAt k)) (same-length b e)
-      (λ j p q. same-before-slot j (omega (arith, g .laid-out .mapping-after k h)) (omega (arith, g .laid-out .mapping-before k (itemNumber e) h (listed b e a)))))
+  same-mapping k h = rw (same-le32At b (edited b e) (fontAt k + 8) (λ j q r. same-head j (omega arith)), same-le16At b (edited b e) (fontAt k + 12) (λ j q r. same-head j (omega arith)))
+      (same-piece _ _ (g .laid-out .mapping-after k h) (g .laid-out .mapping-before k (itemNumber e) h (listed b e a)))
 
   pub same-atlas : (k : ℕ) → k < fontCount b → Fields.atlasBytes (edited b e) (fontAt k) ≡ Fields.atlasBytes b (fontAt k)
-  same-atlas k h = rw (same-u32 b (edited b e) (fontAt k) (λ j q r. same-head j (omega arith)), same-u32 b (edited b e) (fontAt k + 4) (λ j q r. same-head j (omega arith)))
-      (same-part b (edited b e) (Fields.atlasOffset b (fontAt k)) (Fields.atlasLength b (fontAt k)) (same-length b e)
-      (λ j p q. same-before-slot j (omega (arith, g .laid-out .atlas-after k h)) (omega (arith, g .laid-out .atlas-before k (itemNumber e) h (listed b e a)))))
+  same-atlas k h = rw (same-le32At b (edited b e) (fontAt k) (λ j q r. same-head j (omega arith)), same-le32At b (edited b e) (fontAt k + 4) (λ j q r. same-head j (omega arith)))
+      (same-piece _ _ (g .laid-out .atlas-after k h) (g .laid-out .atlas-before k (itemNumber e) h (listed b e a)))
 
-  pub same-font : (k : ℕ) → k < fontCount b → font (edited b e) k ≡ font b k
-  unfolding font
-  same-font k h = rw (same-monoFont b (edited b e) (fontAt k) (λ j p q. same-head j (omega arith)), same-atlas k h, same-mapping k h)
-
-  -- another item is read as before
-  pub same-other : (j : ℕ) → j < itemCount b → (j ≡ itemNumber e → ⊥) → item (edited b e) j ≡ item b j
-  unfolding item
-  same-other j h d =
-      let f = g .item-fits j h in
-      rw same-fontCount (same-itemOf b (edited b e) (itemAt b j) (same-length b e) (same-record j h d) (λ k p q. same-slot j h d k p (omega arith)))
-
-  -- every item keeps its font
-  same-fontNumber : (j : ℕ) → j < itemCount b → Fields.fontNumber (edited b e) (itemAt b j) ≡ Fields.fontNumber b (itemAt b j)
+  -- every item keeps its font's number
+  pub same-fontNumber : (j : ℕ) → j < itemCount b → Fields.fontNumber (edited b e) (itemAt b j) ≡ Fields.fontNumber b (itemAt b j)
   same-fontNumber j h = go (eqb j (itemNumber e)) refl
     where
       go : (t : Bool) → eqb j (itemNumber e) ≡ t → getD (edited b e) (itemAt b j + 12) 0 ≡ getD b (itemAt b j + 12) 0
       go true u = let z = eqb-true j (itemNumber e) u in unwritten b e a (itemAt b j + 12) (let l = listed b e a in let s = slot-after in omega arith)
       go false u = same-record j h (eqb-false j (itemNumber e) u) (itemAt b j + 12) (omega arith) (omega arith)
-
-  pub same-itemFont : (j : ℕ) → j < itemCount b → itemFont (edited b e) j ≡ itemFont b j
-  unfolding itemFont
-  same-itemFont j h = rw (same-fontCount, same-fontNumber j h) (same-font (Fields.fontNumber b (itemAt b j)) (g .item-fits j h .font-there))

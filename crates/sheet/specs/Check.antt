@@ -1,4 +1,5 @@
--- The check of a sheet: the number of document 01's first refusal, or 0. Assumes nothing.
+-- The check of a sheet: the number of the first refusal (docs/SHEET.md, Replies and refusals), or 0. Assumes nothing.
+-- To be believed: it says what a sheet means.
 use Prim.Native.Nat.{ℕ, zero, suc, _+_}
 use mathlib.Core.Bool.{Bool, true, false, _&&_}
 use mathlib.Core.List.{List, [], _∷_}
@@ -7,65 +8,83 @@ use lib.ListN.{length}
 use Rattle.characters.specs.Refusal.{need, orElse, all}
 use Rattle.characters.specs.Utf8.{wellFormed}
 use Rattle.mapping.specs.Mapping
+use Rattle.limits.specs.declared.HeaderFields.{HeaderFields}
+use Rattle.limits.specs.declared.FontFields.{FontFields}
+use Rattle.limits.specs.declared.ItemFields.{ItemFields}
 use Rattle.limits.specs.Limits.{headerRefusal, fontLimits, itemLimits}
 use Rattle.sheet.specs.declared.Reach.{Reach}
-use Rattle.sheet.specs.declared.Reach.the-variants.{To, Off}
+use Rattle.sheet.specs.declared.Reach.the-variants.{To, Misplaced}
 use Rattle.sheet.specs.Fields
+use Rattle.sheet.specs.Pieces.{Piece, pieces}
 
 -- ---- refusals 1 to 4
 
+unfoldable pub headerFields : List ℕ → HeaderFields
+headerFields b = record {
+  «file_length» = length b;
+  «whole_length» = Fields.wholeLength b;
+  zero = Fields.headerZero b;
+  edition = Fields.edition b;
+  width = Fields.frameWidth b;
+  height = Fields.frameHeight b;
+  fonts = Fields.fontCount b;
+  items = Fields.itemCount b;
+}
+
 unfoldable pub checkHeader : List ℕ → ℕ
-checkHeader b =
-    headerRefusal (length b) (Fields.wholeLength b) (Fields.headerZero b) (Fields.edition b) (Fields.frameWidth b) (Fields.frameHeight b) (Fields.fontCount b) (Fields.itemCount b)
+checkHeader b = headerRefusal (headerFields b)
 
 -- ---- refusal 5: "After the items, without gaps: each font's atlas and mapping, then each slot; the last ends the file"
 
 -- a test, then where the rest ends
 abbrev pub given : Bool → Reach → Reach
 given true rest = rest
-given false rest = Off
+given false rest = Misplaced
 
--- where the pieces of the n fonts from number k on end, if the first starts at p and each other where the one before ends
-unfoldable pub fontsEnd : List ℕ → ℕ → ℕ → ℕ → Reach
-fontsEnd b zero k p = To p
-fontsEnd b (suc n) k p =
-    given (eqb (Fields.atlasOffset b (Fields.fontAt k)) p && eqb (Fields.mappingOffset b (Fields.fontAt k)) (p + Fields.atlasLength b (Fields.fontAt k)))
-    (fontsEnd b n (suc k) (p + Fields.atlasLength b (Fields.fontAt k) + Fields.mappingLength b (Fields.fontAt k)))
-
-unfoldable pub slotsEnd : List ℕ → ℕ → ℕ → ℕ → Reach
-slotsEnd b zero k p = To p
-slotsEnd b (suc n) k p = given (eqb (Fields.slotOffset b (Fields.itemAt b k)) p) (slotsEnd b n (suc k) (p + Fields.slotSize b (Fields.itemAt b k)))
-
-abbrev pub thenSlots : List ℕ → Reach → Reach
-thenSlots b Off = Off
-thenSlots b (To p) = slotsEnd b (Fields.itemCount b) 0 p
+-- where pieces end, if the first starts at p and each other where the one before ends
+unfoldable pub reach : List Piece → ℕ → Reach
+reach [] p = To p
+reach (c ∷ cs) p = given (eqb (c .offset) p) (reach cs (p + c .size))
 
 abbrev pub endsAt : Reach → ℕ → Bool
-endsAt Off n = false
+endsAt Misplaced n = false
 endsAt (To p) n = eqb p n
 
 unfoldable pub layoutTests : List ℕ → List Bool
 layoutTests b =
-    eqb (Fields.fontsOffset b) 24 ∷ eqb (Fields.itemsOffset b) (Fields.fontAt (Fields.fontCount b))
-    ∷ endsAt (thenSlots b (fontsEnd b (Fields.fontCount b) 0 (Fields.piecesAt b))) (length b) ∷ []
+    eqb (Fields.fontsOffset b) 24 ∷ eqb (Fields.itemsOffset b) (Fields.fontAt (Fields.fontCount b)) ∷ endsAt (reach (pieces b) (Fields.piecesAt b)) (length b) ∷ []
 
 abbrev pub isLaidOut : List ℕ → Bool
 isLaidOut b = all (layoutTests b)
 
 -- ---- refusals 6 to 8, of the font whose record stands at o
 
+unfoldable pub fontFields : List ℕ → ℕ → FontFields
+fontFields b o = record { cw = Fields.fontCw b o; ch = Fields.fontCh b o; spacing = Fields.fontSpacing b o; «atlas_width» = Fields.atlasWidth b o; zero = Fields.fontZero b o }
+
 unfoldable pub checkFont : List ℕ → ℕ → ℕ
-checkFont b o =
-    orElse (fontLimits (Fields.fontCw b o) (Fields.fontCh b o) (Fields.fontSpacing b o) (Fields.atlasWidth b o) (Fields.fontZero b o))
-    (Mapping.refusal (Fields.mappingBytes b o))
+checkFont b o = orElse (fontLimits (fontFields b o)) (Mapping.refusal (Fields.mappingBytes b o))
 
 -- ---- refusals 9 and 10, of the item whose record stands at o
 
-unfoldable pub itemNumbers : List ℕ → ℕ → ℕ
-itemNumbers b o =
-    itemLimits (Fields.slotSize b o) (Fields.textLength b o) (Fields.fontNumber b o) (Fields.fontCount b)
-    (Fields.textMode b o) (Fields.backgroundMode b o) (Fields.underlineMode b o) (Fields.strikethroughMode b o)
-    (Fields.alignmentCode b o) (Fields.baselineCode b o) (Fields.heightKind b o) (Fields.heightValue b o) (Fields.itemZero b o)
+unfoldable pub itemFields : List ℕ → ℕ → ItemFields
+itemFields b o = record {
+  «slot_size» = Fields.slotSize b o;
+  «text_length» = Fields.textLength b o;
+  font = Fields.fontNumber b o;
+  «text_mode» = Fields.textMode b o;
+  «background_mode» = Fields.backgroundMode b o;
+  «underline_mode» = Fields.underlineMode b o;
+  «strikethrough_mode» = Fields.strikethroughMode b o;
+  alignment = Fields.alignmentCode b o;
+  baseline = Fields.baselineCode b o;
+  «height_kind» = Fields.heightKind b o;
+  «height_value» = Fields.heightValue b o;
+  zero = Fields.itemZero b o;
+}
+
+abbrev pub itemNumbers : List ℕ → ℕ → ℕ
+itemNumbers b o = itemLimits (itemFields b o) (Fields.fontCount b)
 
 -- "Slot bytes past the text are 00"
 unfoldable pub zeros : List ℕ → Bool

@@ -1,4 +1,5 @@
--- The three edits on the sheet's bytes (document 01, Drawing and edits). Assumes nothing.
+-- The three edits on the sheet's bytes (docs/SHEET.md, Drawing and edits). Assumes nothing.
+-- To be believed: it says what a sheet means.
 use Prim.Native.Nat.{ℕ, suc, _+_, _-_}
 use mathlib.Core.Bool.{Bool, _&&_}
 use mathlib.Core.List.{List, _++_}

@@ -1,5 +1,6 @@
--- The file's layout (document 01, Sheet): numbers stored as bytes, and each field of header, font and item by its offset.
+-- The file's layout (docs/SHEET.md, Sheet): numbers stored as bytes, and each field of header, font and item by its offset.
 -- A record is named by the offset at which it stands. Assumes nothing.
+-- To be believed: it says what a sheet means.
 use Prim.Native.Nat.{ℕ, _+_, _-_, _*_, _/_, _%_}
 use mathlib.Core.Bool.{cond}
 use mathlib.Core.List.{List, [], _∷_}
@@ -9,14 +10,14 @@ use Rattle.geometry.specs.Layer.{origin}
 
 -- ---- "Numbers stored as bytes are little-endian, offsets count from the file's first byte"
 
-abbrev pub u8 : List ℕ → ℕ → ℕ
-u8 b o = getD b o 0
+abbrev pub byteAt : List ℕ → ℕ → ℕ
+byteAt b o = getD b o 0
 
-unfoldable pub u16 : List ℕ → ℕ → ℕ
-u16 b o = getD b o 0 + 256 * getD b (o + 1) 0
+unfoldable pub le16At : List ℕ → ℕ → ℕ
+le16At b o = getD b o 0 + 256 * getD b (o + 1) 0
 
-unfoldable pub u32 : List ℕ → ℕ → ℕ
-u32 b o = getD b o 0 + 256 * getD b (o + 1) 0 + 65_536 * getD b (o + 2) 0 + 16_777_216 * getD b (o + 3) 0
+unfoldable pub le32At : List ℕ → ℕ → ℕ
+le32At b o = getD b o 0 + 256 * getD b (o + 1) 0 + 65_536 * getD b (o + 2) 0 + 16_777_216 * getD b (o + 3) 0
 
 -- the two bytes of a number
 unfoldable pub le16 : ℕ → List ℕ
@@ -33,34 +34,34 @@ coordinate n = cond (ltb n 32_768) (origin + n) (origin + n - 65_536)
 -- ---- "Header, 24 bytes"
 
 abbrev pub edition : List ℕ → ℕ
-edition b = u16 b 0
+edition b = le16At b 0
 
 unfoldable pub frameWidth : List ℕ → ℕ
-frameWidth b = u16 b 2
+frameWidth b = le16At b 2
 
 unfoldable pub frameHeight : List ℕ → ℕ
-frameHeight b = u16 b 4
+frameHeight b = le16At b 4
 
 unfoldable pub paper : List ℕ → ℕ
-paper b = u8 b 6
+paper b = byteAt b 6
 
 unfoldable pub fontCount : List ℕ → ℕ
-fontCount b = u8 b 7
+fontCount b = byteAt b 7
 
 unfoldable pub itemCount : List ℕ → ℕ
-itemCount b = u16 b 8
+itemCount b = le16At b 8
 
 abbrev pub headerZero : List ℕ → ℕ
-headerZero b = u16 b 10
+headerZero b = le16At b 10
 
 abbrev pub fontsOffset : List ℕ → ℕ
-fontsOffset b = u32 b 12
+fontsOffset b = le32At b 12
 
 abbrev pub itemsOffset : List ℕ → ℕ
-itemsOffset b = u32 b 16
+itemsOffset b = le32At b 16
 
 abbrev pub wholeLength : List ℕ → ℕ
-wholeLength b = u32 b 20
+wholeLength b = le32At b 20
 
 -- ---- where records stand: "offset of fonts = 24", "of items = 24 + 28 × F"; the pieces follow the items
 
@@ -76,116 +77,116 @@ piecesAt b = itemAt b (itemCount b)
 -- ---- "Font, 28 bytes"
 
 abbrev pub atlasOffset : List ℕ → ℕ → ℕ
-atlasOffset b o = u32 b o
+atlasOffset b o = le32At b o
 
 abbrev pub atlasLength : List ℕ → ℕ → ℕ
-atlasLength b o = u32 b (o + 4)
+atlasLength b o = le32At b (o + 4)
 
 abbrev pub mappingOffset : List ℕ → ℕ → ℕ
-mappingOffset b o = u32 b (o + 8)
+mappingOffset b o = le32At b (o + 8)
 
 abbrev pub mappingLength : List ℕ → ℕ → ℕ
-mappingLength b o = u16 b (o + 12)
+mappingLength b o = le16At b (o + 12)
 
 abbrev pub replacementIndex : List ℕ → ℕ → ℕ
-replacementIndex b o = u16 b (o + 14)
+replacementIndex b o = le16At b (o + 14)
 
 abbrev pub atlasWidth : List ℕ → ℕ → ℕ
-atlasWidth b o = u16 b (o + 16)
+atlasWidth b o = le16At b (o + 16)
 
 abbrev pub fontCw : List ℕ → ℕ → ℕ
-fontCw b o = u8 b (o + 18)
+fontCw b o = byteAt b (o + 18)
 
 abbrev pub fontCh : List ℕ → ℕ → ℕ
-fontCh b o = u8 b (o + 19)
+fontCh b o = byteAt b (o + 19)
 
 abbrev pub fontSpacing : List ℕ → ℕ → ℕ
-fontSpacing b o = u8 b (o + 20)
+fontSpacing b o = byteAt b (o + 20)
 
 abbrev pub fontBaseline : List ℕ → ℕ → ℕ
-fontBaseline b o = u8 b (o + 21)
+fontBaseline b o = byteAt b (o + 21)
 
 abbrev pub strikethroughOffset : List ℕ → ℕ → ℕ
-strikethroughOffset b o = u8 b (o + 22)
+strikethroughOffset b o = byteAt b (o + 22)
 
 abbrev pub strikethroughHeight : List ℕ → ℕ → ℕ
-strikethroughHeight b o = u8 b (o + 23)
+strikethroughHeight b o = byteAt b (o + 23)
 
 abbrev pub underlineOffset : List ℕ → ℕ → ℕ
-underlineOffset b o = u8 b (o + 24)
+underlineOffset b o = byteAt b (o + 24)
 
 abbrev pub underlineHeight : List ℕ → ℕ → ℕ
-underlineHeight b o = u8 b (o + 25)
+underlineHeight b o = byteAt b (o + 25)
 
 abbrev pub fontZero : List ℕ → ℕ → ℕ
-fontZero b o = u16 b (o + 26)
+fontZero b o = le16At b (o + 26)
 
 -- ---- "Item, 28 bytes"; the style is bytes 13 to 20
 
 abbrev pub itemX : List ℕ → ℕ → ℕ
-itemX b o = u16 b o
+itemX b o = le16At b o
 
 abbrev pub itemY : List ℕ → ℕ → ℕ
-itemY b o = u16 b (o + 2)
+itemY b o = le16At b (o + 2)
 
 abbrev pub slotOffset : List ℕ → ℕ → ℕ
-slotOffset b o = u32 b (o + 4)
+slotOffset b o = le32At b (o + 4)
 
 abbrev pub slotSize : List ℕ → ℕ → ℕ
-slotSize b o = u16 b (o + 8)
+slotSize b o = le16At b (o + 8)
 
 -- where the text's length stands
 abbrev pub textLengthAt : ℕ → ℕ
 textLengthAt o = o + 10
 
 abbrev pub textLength : List ℕ → ℕ → ℕ
-textLength b o = u16 b (textLengthAt o)
+textLength b o = le16At b (textLengthAt o)
 
 abbrev pub fontNumber : List ℕ → ℕ → ℕ
-fontNumber b o = u8 b (o + 12)
+fontNumber b o = byteAt b (o + 12)
 
 -- where the style stands
 abbrev pub styleAt : ℕ → ℕ
 styleAt o = o + 13
 
 abbrev pub textMode : List ℕ → ℕ → ℕ
-textMode b o = u8 b (o + 13)
+textMode b o = byteAt b (o + 13)
 
 abbrev pub textGrey : List ℕ → ℕ → ℕ
-textGrey b o = u8 b (o + 14)
+textGrey b o = byteAt b (o + 14)
 
 abbrev pub backgroundMode : List ℕ → ℕ → ℕ
-backgroundMode b o = u8 b (o + 15)
+backgroundMode b o = byteAt b (o + 15)
 
 abbrev pub backgroundGrey : List ℕ → ℕ → ℕ
-backgroundGrey b o = u8 b (o + 16)
+backgroundGrey b o = byteAt b (o + 16)
 
 abbrev pub underlineMode : List ℕ → ℕ → ℕ
-underlineMode b o = u8 b (o + 17)
+underlineMode b o = byteAt b (o + 17)
 
 abbrev pub underlineGrey : List ℕ → ℕ → ℕ
-underlineGrey b o = u8 b (o + 18)
+underlineGrey b o = byteAt b (o + 18)
 
 abbrev pub strikethroughMode : List ℕ → ℕ → ℕ
-strikethroughMode b o = u8 b (o + 19)
+strikethroughMode b o = byteAt b (o + 19)
 
 abbrev pub strikethroughGrey : List ℕ → ℕ → ℕ
-strikethroughGrey b o = u8 b (o + 20)
+strikethroughGrey b o = byteAt b (o + 20)
 
 abbrev pub alignmentCode : List ℕ → ℕ → ℕ
-alignmentCode b o = u8 b (o + 21)
+alignmentCode b o = byteAt b (o + 21)
 
 abbrev pub baselineCode : List ℕ → ℕ → ℕ
-baselineCode b o = u8 b (o + 22)
+baselineCode b o = byteAt b (o + 22)
 
 abbrev pub heightKind : List ℕ → ℕ → ℕ
-heightKind b o = u8 b (o + 23)
+heightKind b o = byteAt b (o + 23)
 
 abbrev pub heightValue : List ℕ → ℕ → ℕ
-heightValue b o = u16 b (o + 24)
+heightValue b o = le16At b (o + 24)
 
 abbrev pub itemZero : List ℕ → ℕ → ℕ
-itemZero b o = u16 b (o + 26)
+itemZero b o = le16At b (o + 26)
 
 -- ---- pieces: a font's atlas and mapping, an item's text and the bytes of its slot past the text
 

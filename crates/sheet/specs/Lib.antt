@@ -1,6 +1,7 @@
 pub mod Fields
+pub mod Pieces
+pub mod Conforming
 pub mod Check
 pub mod Accepted
-pub mod Records
 pub mod Edits
 pub mod Requires

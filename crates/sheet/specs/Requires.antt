@@ -1,10 +1,12 @@
 -- What functions on a sheet's bytes require, each as one record. Assumes nothing.
+-- Serves contracts: nothing here has to be believed.
 use Prim.Native.Nat.{ℕ, _+_, _≤_, _<_}
 use mathlib.Core.Path.{_≡_}
 use mathlib.Core.List.{List}
 use lib.ListN.{length}
 use Rattle.sheet.specs.Fields.{fontCount, itemCount, piecesAt, slotSize}
-use Rattle.sheet.specs.Accepted.{Headed, ItemIn, Accepted}
+use Rattle.sheet.specs.Conforming.{Headed}
+use Rattle.sheet.specs.Accepted.{ItemIn, Accepted}
 use Rattle.sheet.specs.Edits.{Edit, refusal}
 
 -- the header's limits hold, and the records lie in the file

@@ -1,41 +1,35 @@
 // The file's fields: numbers stored as bytes, the header's numbers, and where records stand.
+use numbers::wide;
 ghost use mathlib.Core.Path.{_≡_};
 ghost use Prim.Native.Nat.{_+_, _^_, _≤_, _<_};
 ghost use lib.ListN.{length};
-ghost use Rattle.sheet.specs.Fields.{u8, u16, u32, part, frameWidth, frameHeight, paper, fontCount, itemCount, fontAt, itemAt};
-
-// The byte as a number of 64 bits.
-fn wide(byte: u8) -> usize
-    ensures { λ r. ⌜ (r ≡ byte) × (r < 2 ^ 8) ⌝ }
-{
-    byte as usize
-}
+ghost use Rattle.sheet.specs.Fields.{byteAt, le16At, le32At, part, frameWidth, frameHeight, paper, fontCount, itemCount, fontAt, itemAt};
 
 // The number that the byte at `at` stores.
 pub fn u8_at(bytes: &[u8], at: usize) -> u32
     requires { ⌜ at < length (now bytes) ⌝ }
-    ensures { λ r. ⌜ (r ≡ u8 (now (bytes .entry)) at) × (r < 2 ^ 8) ⌝ }
+    ensures { λ r. ⌜ (r ≡ byteAt (now (bytes .entry)) at) × (r < 2 ^ 8) ⌝ }
 {
-    wide(bytes[at]) as u32
+    wide(bytes[at])
 }
 
 // The number that the two bytes from `at` on store.
 pub fn u16_at(bytes: &[u8], at: usize) -> usize
     requires { ⌜ at + 2 ≤ length (now bytes) ⌝ }
-    ensures { λ r. ⌜ (r ≡ u16 (now (bytes .entry)) at) × (r < 2 ^ 16) ⌝ }
+    ensures { λ r. ⌜ (r ≡ le16At (now (bytes .entry)) at) × (r < 2 ^ 16) ⌝ }
 {
-    wide(bytes[at]) + 256 * wide(bytes[at + 1])
+    (wide(bytes[at]) + 256 * wide(bytes[at + 1])) as usize
 }
 
 // The number that the four bytes from `at` on store.
 pub fn u32_at(bytes: &[u8], at: usize) -> usize
     requires { ⌜ at + 4 ≤ length (now bytes) ⌝ }
-    ensures { λ r. ⌜ (r ≡ u32 (now (bytes .entry)) at) × (r < 2 ^ 32) ⌝ }
+    ensures { λ r. ⌜ (r ≡ le32At (now (bytes .entry)) at) × (r < 2 ^ 32) ⌝ }
 {
-    wide(bytes[at])
+    (wide(bytes[at])
         + 256 * wide(bytes[at + 1])
         + 65536 * wide(bytes[at + 2])
-        + 16777216 * wide(bytes[at + 3])
+        + 16777216 * wide(bytes[at + 3])) as usize
 }
 
 pub fn frame_width(sheet: &[u8]) -> u32

@@ -1,4 +1,4 @@
-// The sheet's file: its check, its records by value, and the three edits on its bytes.
+// The sheet's file: its fields, and its check.
 use fields::font_count;
 use fields::font_offset;
 use fields::frame_height;
@@ -9,6 +9,9 @@ use fields::part;
 use fields::u8_at;
 use fields::u16_at;
 use fields::u32_at;
+use limits::FontFields;
+use limits::HeaderFields;
+use limits::ItemFields;
 use limits::font_limits;
 use limits::header_refusal;
 use limits::item_limits;
@@ -16,7 +19,7 @@ use pieces::is_laid_out;
 ghost use mathlib.Core.Path.{_≡_};
 ghost use Prim.Native.Nat.{_+_, _≤_};
 ghost use lib.ListN.{length};
-ghost use Rattle.sheet.specs.Check.{checkHeader, checkFont, checkFonts, itemNumbers, zeros, checkItem, checkItems, check};
+ghost use Rattle.sheet.specs.Check.{headerFields, checkHeader, fontFields, checkFont, checkFonts, itemFields, zeros, checkItem, checkItems, check};
 ghost use Rattle.sheet.specs.Accepted.{FontIn, ItemIn, LaidOut};
 
 pub mod fields;
@@ -25,7 +28,24 @@ pub mod pieces;
 // Where the pieces of some records end, or that one of them is out of place.
 pub enum Reach {
     To(usize),
-    Off,
+    Misplaced,
+}
+
+// The header's fields, as refusals 1 to 4 test them.
+fn header_fields(sheet: &[u8]) -> HeaderFields
+    requires { ⌜ 24 ≤ length (now sheet) ⌝ }
+    ensures { λ r. ⌜ r ≡ headerFields (now (sheet .entry)) ⌝ }
+{
+    HeaderFields {
+        file_length: sheet.len(),
+        whole_length: u32_at(sheet, 20),
+        zero: u16_at(sheet, 10),
+        edition: u16_at(sheet, 0),
+        width: frame_width(sheet),
+        height: frame_height(sheet),
+        fonts: font_count(sheet),
+        items: item_count(sheet),
+    }
 }
 
 // Refusals 1 to 4.
@@ -35,16 +55,21 @@ fn check_header(sheet: &[u8]) -> u32
     if sheet.len() < 24 {
         return 1;
     }
-    header_refusal(
-        sheet.len(),
-        u32_at(sheet, 20),
-        u16_at(sheet, 10),
-        u16_at(sheet, 0),
-        frame_width(sheet),
-        frame_height(sheet),
-        font_count(sheet),
-        item_count(sheet),
-    )
+    header_refusal(header_fields(sheet))
+}
+
+// The fields of the font whose record stands at `o`, as refusal 6 tests them.
+fn font_fields(sheet: &[u8], o: usize) -> FontFields
+    requires { ⌜ o + 28 ≤ length (now sheet) ⌝ }
+    ensures { λ r. ⌜ r ≡ fontFields (now (sheet .entry)) o ⌝ }
+{
+    FontFields {
+        cw: sheet[o + 18],
+        ch: sheet[o + 19],
+        spacing: sheet[o + 20],
+        atlas_width: u16_at(sheet, o + 16),
+        zero: u16_at(sheet, o + 26),
+    }
 }
 
 // Refusals 6 to 8 of the font whose record stands at `o`.
@@ -52,13 +77,7 @@ fn check_font(sheet: &[u8], o: usize) -> u32
     requires { ⌜ FontIn (now sheet) o ⌝ }
     ensures { λ r. ⌜ r ≡ checkFont (now (sheet .entry)) o ⌝ }
 {
-    let n = font_limits(
-        sheet[o + 18],
-        sheet[o + 19],
-        sheet[o + 20],
-        u16_at(sheet, o + 16),
-        u16_at(sheet, o + 26),
-    );
+    let n = font_limits(font_fields(sheet, o));
     if n != 0 {
         return n;
     }
@@ -84,26 +103,25 @@ fn check_fonts(sheet: &[u8]) -> u32
     0
 }
 
-// Refusal 9 of the item whose record stands at `o`, but for its slot's tail.
-fn item_numbers(sheet: &[u8], o: usize) -> u32
+// The fields of the item whose record stands at `o`, as refusal 9 tests them.
+fn item_fields(sheet: &[u8], o: usize) -> ItemFields
     requires { ⌜ o + 28 ≤ length (now sheet) ⌝ }
-    ensures { λ r. ⌜ r ≡ itemNumbers (now (sheet .entry)) o ⌝ }
+    ensures { λ r. ⌜ r ≡ itemFields (now (sheet .entry)) o ⌝ }
 {
-    item_limits(
-        u16_at(sheet, o + 8),
-        u16_at(sheet, o + 10),
-        u8_at(sheet, o + 12),
-        font_count(sheet),
-        sheet[o + 13],
-        sheet[o + 15],
-        sheet[o + 17],
-        sheet[o + 19],
-        sheet[o + 21],
-        sheet[o + 22],
-        sheet[o + 23],
-        u16_at(sheet, o + 24),
-        u16_at(sheet, o + 26),
-    )
+    ItemFields {
+        slot_size: u16_at(sheet, o + 8),
+        text_length: u16_at(sheet, o + 10),
+        font: u8_at(sheet, o + 12),
+        text_mode: sheet[o + 13],
+        background_mode: sheet[o + 15],
+        underline_mode: sheet[o + 17],
+        strikethrough_mode: sheet[o + 19],
+        alignment: sheet[o + 21],
+        baseline: sheet[o + 22],
+        height_kind: sheet[o + 23],
+        height_value: u16_at(sheet, o + 24),
+        zero: u16_at(sheet, o + 26),
+    }
 }
 
 // Whether every byte is 0.
@@ -125,7 +143,7 @@ fn check_item(sheet: &[u8], o: usize) -> u32
     requires { ⌜ ItemIn (now sheet) o ⌝ }
     ensures { λ r. ⌜ r ≡ checkItem (now (sheet .entry)) o ⌝ }
 {
-    let n = item_numbers(sheet, o);
+    let n = item_limits(item_fields(sheet, o), font_count(sheet));
     if n != 0 {
         return n;
     }

@@ -8,14 +8,15 @@ use super::fields::u16_at;
 use super::fields::u32_at;
 ghost use mathlib.Core.Path.{_≡_};
 ghost use Rattle.sheet.specs.Fields.{fontCount, itemCount};
-ghost use Rattle.sheet.specs.Check.{fontsEnd, slotsEnd, thenSlots, isLaidOut};
-ghost use Rattle.sheet.specs.Accepted.{Headed};
+ghost use Rattle.sheet.specs.Pieces.{fontPieces, slotPieces, piecesOf, pieces};
+ghost use Rattle.sheet.specs.Conforming.{Headed};
+ghost use Rattle.sheet.specs.Check.{reach, isLaidOut};
 ghost use Rattle.sheet.specs.Requires.{RecordsIn};
 
 // Where the fonts' pieces end, if the first starts at `from` and each other where the one before ends.
 fn fonts_end(sheet: &[u8], from: usize) -> Reach
     requires { ⌜ RecordsIn (now sheet) ⌝ }
-    ensures { λ r. ⌜ r ≡ fontsEnd (now (sheet .entry)) (fontCount (now (sheet .entry))) 0 from ⌝ }
+    ensures { λ r. ⌜ r ≡ reach (piecesOf (fontPieces (now (sheet .entry))) (fontCount (now (sheet .entry))) 0) from ⌝ }
 {
     let fonts = font_count(sheet);
     let mut k: u32 = 0;
@@ -27,10 +28,10 @@ fn fonts_end(sheet: &[u8], from: usize) -> Reach
         let mapping = u32_at(sheet, o + 8);
         let mapping_length = u16_at(sheet, o + 12);
         if atlas != p {
-            return Reach::Off;
+            return Reach::Misplaced;
         }
         if mapping != p + atlas_length {
-            return Reach::Off;
+            return Reach::Misplaced;
         }
         p = p + atlas_length + mapping_length;
         k += 1;
@@ -41,7 +42,7 @@ fn fonts_end(sheet: &[u8], from: usize) -> Reach
 // Where the slots end, if the first starts at `from` and each other where the one before ends.
 fn slots_end(sheet: &[u8], from: usize) -> Reach
     requires { ⌜ RecordsIn (now sheet) ⌝ }
-    ensures { λ r. ⌜ r ≡ slotsEnd (now (sheet .entry)) (itemCount (now (sheet .entry))) 0 from ⌝ }
+    ensures { λ r. ⌜ r ≡ reach (piecesOf (slotPieces (now (sheet .entry))) (itemCount (now (sheet .entry))) 0) from ⌝ }
 {
     let items = item_count(sheet);
     let mut k: u32 = 0;
@@ -51,7 +52,7 @@ fn slots_end(sheet: &[u8], from: usize) -> Reach
         let slot = u32_at(sheet, o + 4);
         let size = u16_at(sheet, o + 8);
         if slot != p {
-            return Reach::Off;
+            return Reach::Misplaced;
         }
         p = p + size;
         k += 1;
@@ -62,10 +63,10 @@ fn slots_end(sheet: &[u8], from: usize) -> Reach
 // Where all pieces end: the fonts' from `from` on, then the slots.
 fn pieces_end(sheet: &[u8], from: usize) -> Reach
     requires { ⌜ RecordsIn (now sheet) ⌝ }
-    ensures { λ r. ⌜ r ≡ thenSlots (now (sheet .entry)) (fontsEnd (now (sheet .entry)) (fontCount (now (sheet .entry))) 0 from) ⌝ }
+    ensures { λ r. ⌜ r ≡ reach (pieces (now (sheet .entry))) from ⌝ }
 {
     let Reach::To(slots) = fonts_end(sheet, from) else {
-        return Reach::Off;
+        return Reach::Misplaced;
     };
     slots_end(sheet, slots)
 }

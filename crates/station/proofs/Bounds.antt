@@ -11,8 +11,9 @@ use mir.Syntax.{w8}
 use mir.Val.{Fits}
 use Rattle.geometry.specs.declared.Point.{Point}
 use Rattle.geometry.specs.declared.Rectangle.{Rectangle}
-use Rattle.geometry.specs.Rectangle.{isEmpty, envelope, join, joins}
+use Rattle.geometry.specs.Rectangle.{envelope, join, joins}
 use Rattle.geometry.specs.Layer.{origin}
+use Rattle.geometry.proofs.Rectangles.{join-cases}
 use Rattle.characters.specs.Utf8.{chars}
 use Rattle.line.specs.declared.MonoFont.{MonoFont}
 use Rattle.line.specs.Line.{measuredWidth}
@@ -23,10 +24,11 @@ use Rattle.text.specs.Limits.{TextLimits}
 use Rattle.text.specs.Text.{Text, PlacedLine, lines, before, placeLine, placeLines, placedLines, lineHeight, lineNext, lastNext, next, measuredBox, boundingBox}
 use Rattle.text.proofs.Places.{start-near, height-small, length-without-return}
 use Rattle.text.proofs.Exact.{PlacedAt, placed-at, length-line}
-use Rattle.sheet.specs.Fields.{u16, coordinate, itemAt, fontAt, fontNumber}
-use Rattle.sheet.specs.Records.{monoFont, font, monoTextStyle, textStyle, itemOf, item, itemFont}
+use Rattle.sheet.specs.Fields.{le16At, coordinate, itemAt, fontAt, fontNumber}
+use Rattle.records.specs.Records.{monoFont, font, monoTextStyle, textStyle, itemOf, item, itemFont}
 use Rattle.sheet.specs.Accepted.{Accepted}
 use Rattle.sheet.specs.Requires.{ItemListed}
+use Rattle.sheet.proofs.Bytes.{le16At-small}
 use Rattle.records.proofs.Readings.{font-limits, font-listed}
 use Rattle.drawing.specs.Drawing.{pixelCount, whitespaceNext, damage}
 use Rattle.drawing.proofs.Readings.{item-read}
@@ -44,13 +46,8 @@ length-lines (c ∷ cs) = go (length-lines cs) (lines cs) refl (eqb c 0x0A)
     go ih (l ∷ ls) e false = omega (arith, ap length e)
 
 join-fits : (a b : Rectangle) → CornerFits a → CornerFits b → CornerFits (join a b)
-unfolding join envelope
-join-fits a b p q = go (isEmpty b) (isEmpty a)
-  where
-    go : (u v : Bool) → CornerFits (cond u a (cond v b (envelope a b)))
-    go true v = p
-    go false true = q
-    go false false = omega arith
+unfolding envelope
+join-fits a b p q = join-cases CornerFits a b p q (omega arith)
 
 -- ---- a text within the limits of drawing
 
@@ -121,9 +118,8 @@ coordinate-near n h = go (ltb n 32_768)
     go true = omega arith
     go false = omega arith
 
-u16-near : (b : List ℕ) (o : ℕ) → ((k : ℕ) → Fits w8 (getD b k 0)) → coordinate (u16 b o) ≤ 4_194_304
-unfolding u16
-u16-near b o h = coordinate-near _ (omega (arith, h o, h (o + 1)))
+le16At-near : (b : List ℕ) (o : ℕ) → ((k : ℕ) → Fits w8 (getD b k 0)) → coordinate (le16At b o) ≤ 4_194_304
+le16At-near b o h = coordinate-near _ (le16At-small b o (λ k. omega (arith, h k)))
 
 module _ (b : List ℕ) (n : ℕ) (bytes : (k : ℕ) → Fits w8 (getD b k 0)) (g : ItemListed b n) where
   item-font-limits : FontLimits (itemFont b n .mono)
@@ -138,7 +134,7 @@ module _ (b : List ℕ) (n : ℕ) (bytes : (k : ℕ) → Fits w8 (getD b k 0)) (
   item-limits =
       let o = itemAt b n in
       let k = fontNumber b o in
-      item-read b n k (monoFont b (fontAt k)) (itemOf b o .position) (monoTextStyle b o) (textStyle b o) g refl refl item-font-limits refl (u16-near b o bytes) (u16-near b (o + 2) bytes) refl refl .text-limits
+      item-read b n k (monoFont b (fontAt k)) (itemOf b o .position) (monoTextStyle b o) (textStyle b o) g refl refl item-font-limits refl (le16At-near b o bytes) (le16At-near b (o + 2) bytes) refl refl .text-limits
 
   pub item-next-fits : (p : Point) → p ≡ next (itemFont b n .mono) (item b n) → PointFits p
   item-next-fits p e = rw e (next-fits (itemFont b n .mono) (item b n) item-font-limits item-limits)

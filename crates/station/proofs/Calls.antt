@@ -18,7 +18,7 @@ use Rattle.mapping.specs.Entries.{WithinLimit}
 use Rattle.mapping.specs.Mapping.{index, contains}
 use Rattle.line.specs.declared.MonoFont.{MonoFont}
 use Rattle.sheet.specs.Fields.{frameWidth, frameHeight, fontAt, mappingBytes}
-use Rattle.sheet.specs.Records.{monoFont, font}
+use Rattle.records.specs.Records.{monoFont, font}
 use Rattle.drawing.proofs.Readings.{mapping-limit}
 use Rattle.calls.specs.declared.Number.{Number}
 use Rattle.calls.specs.declared.Position.{Position}

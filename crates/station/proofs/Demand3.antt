@@ -1,4 +1,4 @@
--- Demand 3, whole: over every list of edits the patched run and the fresh run end alike, as the plain machine has it; and one accepted
+-- Demand 3 (docs/DEMANDS.md), whole: over every list of edits the patched run and the fresh run end alike, as the plain machine has it; and one accepted
 -- edit paints its rectangle only. Both are about the definitions that the contracts of the exported calls cite (`Calls`).
 -- Assumes nothing.
 use Prim.Native.Nat.{ℕ, _<_}
@@ -6,7 +6,7 @@ use native.Mathlib.Omega.{arith}
 use mathlib.Core.Path.{_≡_, refl, sym, _∙_}
 use mathlib.Core.Bool.{true, false}
 use lib.Dec.{eqb}
-use mathlib.Core.List.{List, [], _∷_}
+use mathlib.Core.List.{List}
 use lib.ListN.{length, getD}
 use borrow.Author.Tests.{eqb-true}
 use Rattle.geometry.specs.Rectangle.{covers}
@@ -20,46 +20,37 @@ use Rattle.sheet.proofs.Unchanged.{same-frameWidth}
 use Rattle.drawing.specs.Drawing.{pixelCount, columnOf, rowOf, page, repainted}
 use Rattle.drawing.proofs.Repainting.{length-page, same-pixelCount, repainted-inside, repainted-outside}
 use Rattle.calls.specs.Calls.{boxReply, fits, editDamage, editCode, editReply, editSheet, editFrame}
-use Rattle.station.specs.Machine.{patchedSheet, patchedFrame, patchedReplies, patchedRun, freshSheet, freshReplies, freshRun, plainStep, plainSheet, plainReplies, plainRun}
-use Rattle.station.proofs.Runs.{draw-zero, draw-page, step-accepted, step-size, on-sheet-sheet, on-sheet-reply, edit-sheet, edit-reply, edit-page}
+use Rattle.calls.specs.declared.Box.{Box}
+use Rattle.station.specs.Machine.{Machine, run, Logger, patchedMachine, freshMachine, plainMachine, plainStep, plainReply, patchedRun, freshRun, plainRun}
+use Rattle.station.proofs.Runs.{draw-zero, draw-page, step-accepted, step-size, on-sheet-sheet, on-sheet-reply, edit-sheet, edit-reply, edit-page, Simulates, Alike, runs-alike}
 
 -- ---- the runs, edit by edit
 
-patched-sheet : (es : List Edit) (b : List ℕ) → check b ≡ 0 → patchedSheet b (page b) es ≡ plainSheet b es
-unfolding patchedSheet plainSheet
-patched-sheet [] b c = refl
-patched-sheet (e ∷ es) b c = rw (edit-sheet b e c (page b) (length-page b), edit-page b e c) (patched-sheet es (plainStep b e) (step-accepted b e c))
+-- a run's state is what `image` makes of the plain machine's, which is an accepted sheet with n pixels
+record Follows {S : Type 0} (image : List ℕ → S) (n : ℕ) (s : S) (b : List ℕ) : Type 0 where
+  same : s ≡ image b
+  accepted : check b ≡ 0
+  size : pixelCount b ≡ n
 
-patched-frame : (es : List Edit) (b : List ℕ) → check b ≡ 0 → patchedFrame b (page b) es ≡ page (plainSheet b es)
-unfolding patchedFrame plainSheet
-patched-frame [] b c = refl
-patched-frame (e ∷ es) b c = rw (edit-sheet b e c (page b) (length-page b), edit-page b e c) (patched-frame es (plainStep b e) (step-accepted b e c))
+-- so it stays over a list, if each edit is a step of the plain machine
+as-plain : {S : Type 0} (m : Machine S Edit Box) (image : List ℕ → S)
+    → ((b : List ℕ) (e : Edit) → check b ≡ 0 → m .next (image b) e ≡ image (plainStep b e))
+    → ((b : List ℕ) (e : Edit) → check b ≡ 0 → m .reply (image b) e ≡ plainReply b e)
+    → (b : List ℕ) (es : List Edit) → check b ≡ 0 → Alike (Follows image (pixelCount b)) (run m (image b) es) (run plainMachine b es)
+as-plain m image next reply b es c = runs-alike _ m plainMachine steps es (image b) b (record { same = refl; accepted = c; size = refl })
+  where
+    steps : Simulates (Follows image (pixelCount b)) m plainMachine
+    steps = record {
+      next = λ s b e f. record { same = rw (f .same) (next b e (f .accepted)); accepted = step-accepted b e (f .accepted); size = step-size b e (f .accepted) ∙ f .size };
+      reply = λ s b e f. rw (f .same) (reply b e (f .accepted));
+    }
 
-patched-replies : (es : List Edit) (b : List ℕ) → check b ≡ 0 → patchedReplies b (page b) es ≡ plainReplies b es
-unfolding patchedReplies plainReplies
-patched-replies [] b c = refl
-patched-replies (e ∷ es) b c = rw (edit-reply b e c (page b) (length-page b), edit-sheet b e c (page b) (length-page b), edit-page b e c, patched-replies es (plainStep b e) (step-accepted b e c))
+-- the patched run's frame holds the page of its sheet
+abbrev drawn : List ℕ → Logger
+drawn b = record { sheet = b; frame = page b }
 
-fresh-sheet : (es : List Edit) (b : List ℕ) → check b ≡ 0 → freshSheet b es ≡ plainSheet b es
-unfolding freshSheet plainSheet
-fresh-sheet [] b c = refl
-fresh-sheet (e ∷ es) b c = rw (on-sheet-sheet b e c) (fresh-sheet es (plainStep b e) (step-accepted b e c))
-
-fresh-replies : (es : List Edit) (b : List ℕ) → check b ≡ 0 → freshReplies b es ≡ plainReplies b es
-unfolding freshReplies plainReplies
-fresh-replies [] b c = refl
-fresh-replies (e ∷ es) b c = rw (on-sheet-reply b e c, on-sheet-sheet b e c, fresh-replies es (plainStep b e) (step-accepted b e c))
-
--- the last sheet is accepted and of the first one's size
-last-accepted : (es : List Edit) (b : List ℕ) → check b ≡ 0 → check (plainSheet b es) ≡ 0
-unfolding plainSheet
-last-accepted [] b c = c
-last-accepted (e ∷ es) b c = last-accepted es (plainStep b e) (step-accepted b e c)
-
-last-size : (es : List Edit) (b : List ℕ) → check b ≡ 0 → pixelCount (plainSheet b es) ≡ pixelCount b
-unfolding plainSheet
-last-size [] b c = refl
-last-size (e ∷ es) b c = last-size es (plainStep b e) (step-accepted b e c) ∙ step-size b e c
+edit-drawn : (b : List ℕ) (e : Edit) → check b ≡ 0 → patchedMachine .next (drawn b) e ≡ drawn (plainStep b e)
+edit-drawn b e c = rw (edit-sheet b e c (page b) (length-page b), edit-page b e c)
 
 -- ---- the theorems
 
@@ -80,19 +71,28 @@ pub demand-3 : (b frame frame′ : List ℕ) (es : List Edit) → check b ≡ 0 
 unfolding patchedRun freshRun plainRun
 demand-3 b frame frame′ es c n n′ = record { patched-as-plain = patched; fresh-as-plain = fresh; patched-as-fresh = patched ∙ sym fresh }
   where
-    patched : patchedRun b frame es ≡ plainRun b es
-    patched = rw (draw-page b frame c n, draw-zero b frame c n, patched-sheet es b c, patched-frame es b c, patched-replies es b c)
+    patched-run : Alike (Follows drawn (pixelCount b)) (run patchedMachine (drawn b) es) (run plainMachine b es)
+    patched-run = as-plain patchedMachine drawn edit-drawn (λ b e c. edit-reply b e c (page b) (length-page b)) b es c
 
-    fits : length frame′ ≡ pixelCount (plainSheet b es)
-    fits = n′ ∙ sym (last-size es b c)
+    patched : patchedRun b frame es ≡ plainRun b es
+    patched = rw (draw-page b frame c n, draw-zero b frame c n, patched-run .state .same, patched-run .replies)
+
+    fresh-run : Alike (Follows (λ b. b) (pixelCount b)) (run freshMachine b es) (run plainMachine b es)
+    fresh-run = as-plain freshMachine (λ b. b) on-sheet-sheet on-sheet-reply b es c
+
+    last : List ℕ
+    last = run plainMachine b es .state
+
+    sized : length frame′ ≡ pixelCount last
+    sized = n′ ∙ sym (fresh-run .state .size)
 
     fresh : freshRun b frame′ es ≡ plainRun b es
-    fresh = rw (fresh-sheet es b c, draw-page (plainSheet b es) frame′ (last-accepted es b c) fits, draw-zero (plainSheet b es) frame′ (last-accepted es b c) fits, fresh-replies es b c)
+    fresh = rw (fresh-run .state .same, draw-page last frame′ (fresh-run .state .accepted) sized, draw-zero last frame′ (fresh-run .state .accepted) sized, fresh-run .replies)
 
 -- "And for every single accepted edit, over a frame of the sheet's size holding any greys: inside document 01's rectangle stands the
 -- fresh drawing of the edited sheet, outside it each pixel keeps its grey."
 --   a single accepted edit: e with editCode b frame e ≡ 0, where nothing else is asked of b; a frame holding any greys: frame
---   document 01's rectangle: editDamage b e, the one that the reply gives
+--   the rectangle of docs/SHEET.md: editDamage b e, the one that the reply gives
 --   the fresh drawing of the edited sheet: page (edited b e), and the edited sheet is what the call leaves
 pub record OneEdit (b frame : List ℕ) (e : Edit) : Type 0 where
   pub replied : editReply b frame e ≡ boxReply 0 (editDamage b e)

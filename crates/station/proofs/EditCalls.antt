@@ -9,7 +9,7 @@ use mir.Val.{SFits}
 use Rattle.geometry.specs.declared.Rectangle.{Rectangle}
 use Rattle.geometry.specs.Canvas.{Canvas}
 use Rattle.characters.specs.Refusal.{unlessRefused}
-use Rattle.sheet.specs.Fields.{frameWidth, frameHeight, itemAt}
+use Rattle.sheet.specs.Fields.{itemAt}
 use Rattle.sheet.specs.Accepted.{Accepted}
 use Rattle.sheet.specs.Edits.{Edit, newPlace, itemNumber, edited, putPlace, biased}
 use Rattle.sheet.proofs.Refusals.{orElse-zero}
@@ -18,6 +18,7 @@ use Rattle.sheet.proofs.Stays.{stays}
 use Rattle.sheet.proofs.Unchanged.{same-frameWidth, same-frameHeight}
 use Rattle.edits.proofs.Signed.{read}
 use Rattle.drawing.specs.Drawing.{damage, repainted}
+use Rattle.drawing.specs.Frames.{targetOf}
 use Rattle.drawing.proofs.Painting.{damage-canvas}
 use Rattle.calls.specs.Calls.{editCode, onSheetCode}
 use Rattle.calls.specs.Replies.{CornerFits}
@@ -33,7 +34,7 @@ module _ (b frame : List ℕ) (n : ℕ) (z : n ≡ 0) (e : Edit) (q : n ≡ edit
   unfolding editCode
   edited-accepted = rw es (accepted (edited b e) (stays b e (orElse-zero _ _ (sym q ∙ z) .0) (edit-allowed b frame n z e q .allowed)))
 
-  pub edited-canvas : (a : Rectangle) → a ≡ damage b (edited b e) (itemNumber e) → Canvas (frameWidth s) (frameHeight s) (length frame) a
+  pub edited-canvas : (a : Rectangle) → a ≡ damage b (edited b e) (itemNumber e) → Canvas (targetOf s a) (length frame)
   edited-canvas a ea =
       let f = edit-framed b frame n z e q in
       let g = edit-allowed b frame n z e q in

@@ -1,5 +1,7 @@
 pub mod Runs
 pub mod Demand3
+pub mod PageOfSheet
+pub mod SignedReplies
 pub mod Calls
 pub mod Bounds
 pub mod EditCalls

@@ -1,7 +1,8 @@
--- What one call of demand 3's runs makes of an accepted sheet: the plain machine's step. Assumes nothing.
+-- What one call of demand 3's runs (docs/DEMANDS.md) makes of an accepted sheet: the plain machine's step. And what each step of two machines keeps, their
+-- runs over a list keep. Assumes nothing.
 use Prim.Native.Nat.{ℕ, zero, suc}
 use mathlib.Core.Path.{_≡_, refl}
-use mathlib.Core.List.{List}
+use mathlib.Core.List.{List, [], _∷_}
 use lib.ListN.{length}
 use borrow.Author.Tests.{eq-eqb}
 use Rattle.characters.specs.Refusal.{unlessRefused}
@@ -12,7 +13,7 @@ use Rattle.sheet.proofs.Stays.{stays}
 use Rattle.drawing.specs.Drawing.{pixelCount, page, repainted}
 use Rattle.drawing.proofs.Repainting.{fresh-page, length-page, same-pixelCount, repaint-page}
 use Rattle.calls.specs.Calls.{editDamage, drawCode, drawFrame, editCode, editReply, editSheet, editFrame, onSheetCode, onSheetReply, onSheetSheet}
-use Rattle.station.specs.Machine.{plainStep, plainReply}
+use Rattle.station.specs.Machine.{Machine, Run, run, plainStep, plainReply}
 
 -- ---- a drawing of an accepted sheet on a frame of its size
 
@@ -80,3 +81,23 @@ module _ (b : List ℕ) (e : Edit) (c : check b ≡ 0) where
       go : (n : ℕ) → refusal b e ≡ n → unlessRefused n (repainted (edited b e) (editDamage b e) (page b)) (page b) ≡ page (unlessRefused n (edited b e) b)
       go zero a = repaint-page b e (accepted b c) a
       go (suc n) a = refl
+
+-- ---- two machines side by side
+
+-- from states that stand in a relation, like inputs lead to such states again, with the same reply
+pub record Simulates {S S′ Input Reply : Type 0} (related : S → S′ → Type 0) (m : Machine S Input Reply) (m′ : Machine S′ Input Reply) : Type 0 where
+  pub next : (s : S) (s′ : S′) (i : Input) → related s s′ → related (m .next s i) (m′ .next s′ i)
+  pub reply : (s : S) (s′ : S′) (i : Input) → related s s′ → m .reply s i ≡ m′ .reply s′ i
+
+-- two runs that end in such states, after the same replies
+pub record Alike {S S′ Reply : Type 0} (related : S → S′ → Type 0) (r : Run S Reply) (r′ : Run S′ Reply) : Type 0 where
+  pub state : related (r .state) (r′ .state)
+  pub replies : r .replies ≡ r′ .replies
+
+pub runs-alike : {S S′ Input Reply : Type 0} (related : S → S′ → Type 0) (m : Machine S Input Reply) (m′ : Machine S′ Input Reply) → Simulates related m m′
+    → (is : List Input) (s : S) (s′ : S′) → related s s′ → Alike related (run m s is) (run m′ s′ is)
+unfolding run
+runs-alike related m m′ sim [] s s′ h = record { state = h; replies = refl }
+runs-alike related m m′ sim (i ∷ is) s s′ h =
+    let a = runs-alike related m m′ sim is (m .next s i) (m′ .next s′ i) (sim .next s s′ i h) in
+    record { state = a .state; replies = rw (sim .reply s s′ i h, a .replies) }

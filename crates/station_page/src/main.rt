@@ -1,31 +1,20 @@
-// Reads a sheet from standard input; writes its page, or `refused`, its number and a feed.
+// Reads a sheet from standard input; writes its page, or `refused`, its number and a feed. Where no page was written, standard error
+// says so.
+use libc::STDERR_FILENO;
 use libc::STDIN_FILENO;
 use libc::STDOUT_FILENO;
-use sheet::fields::frame_height;
-use sheet::fields::frame_width;
-use station::station_check;
+use programs::pixel_count;
+use programs::write_refused;
 use station::station_draw;
 use station::station_write_page;
-ghost use Prim.Native.Nat.{_≤_};
 
-// The number of the page's pixels; 0 for a sheet that is refused.
-fn pixel_count(sheet: &[u8]) -> usize
-    ensures { λ r. ⌜ r ≤ 65_536 ⌝ }
-{
-    let code = station_check(sheet);
-    if code != 0 {
-        return 0;
-    }
-    let w = frame_width(sheet) as usize;
-    let h = frame_height(sheet) as usize;
-    w * h
-}
-
-// Writes the first k bytes.
+// Writes the first k bytes to standard output; a write that fails, or ends early, is said on standard error.
 fn write_part(bytes: &[u8], k: usize) {
     if k <= bytes.len() {
         let part = &bytes[0..k];
-        io::write_all(STDOUT_FILENO, part);
+        if !io::write_all(STDOUT_FILENO, part) {
+            io::write_all(STDERR_FILENO, b"page not written\n");
+        }
     }
 }
 
@@ -33,12 +22,14 @@ fn write_part(bytes: &[u8], k: usize) {
 fn write_page_of(sheet: &[u8], frame: &mut [u8], page: &mut [u8]) {
     let code = station_draw(sheet, frame);
     if code != 0 {
-        io::write_all(STDOUT_FILENO, b"refused ");
-        io::print_decimal(STDOUT_FILENO, code as u64);
-        io::write_all(STDOUT_FILENO, b"\n");
+        write_refused(code);
         return;
     }
     let reply = station_write_page(sheet, &frame[..], page);
+    if reply.code != 0 {
+        write_refused(reply.code);
+        return;
+    }
     write_part(&page[..], reply.value as usize);
 }
 

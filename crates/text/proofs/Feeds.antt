@@ -8,9 +8,12 @@ use mathlib.Core.List.{List, [], _∷_}
 use lib.ListN.{length, take, drop, getD, drop-of-length-le, length-drop}
 use lib.Seq.{drop-cons, drop-drop, length-take-le}
 use lib.Dec.{eqb}
+use denote.Ref.{RefT}
 use borrow.Author.Tests.{eq-eqb, ne-eqb}
+use Rattle.text.specs.declared.boxes.Source.{Source}
+use Rattle.text.specs.declared.boxes.Source.the-variants.{Stored, New}
 use Rattle.text.specs.Text.{before, lines}
-use Rattle.text.specs.Lines.{lineLength, lineFrom, either}
+use Rattle.text.specs.Lines.{lineLength, lineFrom, either, LiesAt}
 
 -- ---- `line_end`: a turn at position i of the text
 
@@ -100,18 +103,27 @@ length-line-from text from = length-take-le (lineLength (drop from text)) (drop 
 pub end-of-line : (text row : List ℕ) (from : ℕ) → row ≡ lineFrom text from → from + length row ≡ from + lineLength (drop from text)
 end-of-line text row from e = ap (λ (n : ℕ). from + n) (ap length e ∙ length-line-from text from)
 
--- ---- `line_of`: `chosen` is the text that the line is a part of
+-- ---- `line_of`: `text` is the lent slice that the source names
 
-module _ (stored new : List ℕ) (t : Bool) where
-  pub either-new : t ≡ true → either stored new t ≡ new
-  either-new e = rw e
+module _ (stored new text : RefT (List ℕ)) where
+  named-bytes : (source : Source) → text ≡ either source stored new → either source (stored .now) (new .now) ≡ text .now
+  named-bytes Stored e = rw e
+  named-bytes New e = rw e
 
-  pub either-stored : t ≡ false → either stored new t ≡ stored
-  either-stored e = rw e
+  named-place : (source : Source) → text ≡ either source stored new → either source (stored .ptr) (new .ptr) ≡ text .ptr
+  named-place Stored e = rw e
+  named-place New e = rw e
 
-module _ (text chosen : List ℕ) (from end : ℕ) (e : chosen ≡ text) (d : end ≡ from + lineLength (drop from text)) where
-  pub chosen-end : from ≤ length chosen → end ≤ length text
-  chosen-end h = end-reach text from end (rw e at h) d
+  module _ (source : Source) (e : text ≡ either source stored new) where
+    pub named-length : length (text .now) ≡ length (either source (stored .now) (new .now))
+    named-length = ap length (sym (named-bytes source e))
 
-  pub chosen-line : take (end - from) (drop from text) ≡ lineFrom chosen from
-  chosen-line = rw e (line-part text from end d)
+    module _ (from end : ℕ) (d : end ≡ from + lineLength (drop from (text .now))) where
+      pub named-end : from ≤ length (either source (stored .now) (new .now)) → end ≤ length (text .now)
+      named-end h = end-reach (text .now) from end (rw (named-bytes source e) at h) d
+
+      pub named-line : take (end - from) (drop from (text .now)) ≡ lineFrom (either source (stored .now) (new .now)) from
+      named-line = rw (named-bytes source e) (line-part (text .now) from end d)
+
+    pub named-lies : (from : ℕ) → LiesAt (either source (stored .ptr) (new .ptr)) from (text .ptr .0, from + text .ptr .1)
+    named-lies from = rw (named-place source e) (record { block = refl; offset = refl })

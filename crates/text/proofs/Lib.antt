@@ -1,8 +1,10 @@
 pub mod Feeds
 pub mod Places
 pub mod Drawing
-pub mod Boxes
+pub mod LineBoxes
 pub mod Lines
 pub mod Exact
 pub mod Ink
+pub mod InkBounds
 pub mod StarredLines
+pub mod Signed

@@ -79,11 +79,11 @@ module _ (m : MonoFont) (limits : FontLimits m) where
   height-small (Percent n) h = omega (arith, percent-small n h)
 
 -- the corner of a line is a place from which its k bytes without the return can be drawn
-pub shown-place : (m : MonoFont) (t : TextStyle) (n k x y : ℕ) (row : List ℕ) (corner : Point) → LineLimits n x y → k ≤ n → corner ≡ lineCorner m t row x y → PlaceLimits k (corner .x) (corner .y)
+pub shown-place : (m : MonoFont) (t : TextStyle) (n k x y : ℕ) (line : List ℕ) (corner : Point) → LineLimits n x y → k ≤ n → corner ≡ lineCorner m t line x y → PlaceLimits k (corner .x) (corner .y)
 unfolding lineCorner
-shown-place m t n k x y row corner limits short e = record {
+shown-place m t n k x y line corner limits short e = record {
   text-short = omega arith;
-  near-x = rw e (omega (arith, start-near (t .alignment) x (measuredWidth m (length (chars row)))));
+  near-x = rw e (omega (arith, start-near (t .alignment) x (measuredWidth m (length (chars line)))));
   near-top = rw e (omega arith);
 }
 

@@ -1,4 +1,4 @@
--- The starred lines of document 01's 'Sample font and marked lines': one table, by computing the definitions. Assumes nothing.
+-- The starred lines of docs/SHEET.md, Worked examples: one table, by computing the definitions. Assumes nothing.
 use Prim.Native.Nat.{ℕ, _+_}
 use mathlib.Core.Path.{_≡_, refl}
 use mathlib.Core.List.{List, [], _∷_, _++_, map}

@@ -1,5 +1,6 @@
 -- Limits under which no sum of a text's drawing is too large: what its functions require, and what an accepted sheet gives.
 -- Assumes nothing.
+-- Serves contracts: nothing here has to be believed.
 use Prim.Native.Nat.{ℕ, _≤_}
 use Rattle.text.specs.declared.LineHeight.{LineHeight}
 use Rattle.text.specs.declared.LineHeight.the-variants.{Pixels, Percent}

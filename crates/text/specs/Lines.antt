@@ -1,5 +1,7 @@
 -- The lines of a text, found one by one between two line feeds, as its functions find them. Assumes nothing.
-use Prim.Native.Nat.{ℕ, suc}
+-- Serves contracts: nothing here has to be believed.
+use Prim.Native.Nat.{ℕ, suc, _+_}
+use mathlib.Core.Path.{_≡_}
 use mathlib.Core.Bool.{Bool, cond}
 use mathlib.Core.List.{List, [], _∷_, map}
 use lib.ListN.{length, take, drop}
@@ -10,7 +12,11 @@ use Rattle.geometry.specs.Rectangle.{joins}
 use Rattle.characters.specs.Utf8.{chars}
 use Rattle.line.specs.declared.MonoFont.{MonoFont}
 use Rattle.line.specs.Line.{topEdge, measuredWidth}
+use Rattle.text.specs.declared.Alignment.{Alignment}
+use Rattle.text.specs.declared.Alignment.the-variants.{Left, Center, Right}
 use Rattle.text.specs.declared.TextStyle.{TextStyle}
+use Rattle.text.specs.declared.boxes.Source.{Source}
+use Rattle.text.specs.declared.boxes.Source.the-variants.{Stored, New}
 use Rattle.text.specs.Text.{Text, PlacedLine, alignedStart, placedLines, nowhere, measuredBox, lineInk}
 
 -- how many bytes stand before the first line feed
@@ -22,9 +28,26 @@ lineLength (c ∷ cs) = cond (eqb c 0x0A) 0 (suc (lineLength cs))
 unfoldable pub lineFrom : List ℕ → ℕ → List ℕ
 lineFrom text from = take (lineLength (drop from text)) (drop from text)
 
+-- how many line feeds a text has
+unfoldable pub feedCount : List ℕ → ℕ
+feedCount [] = 0
+feedCount (c ∷ cs) = cond (eqb c 0x0A) 1 0 + feedCount cs
+
+-- how far from x a line that is at most `widest` wide can start
+unfoldable pub startReach : Alignment → ℕ → ℕ
+startReach Left widest = 0
+startReach Center widest = widest + 1
+startReach Right widest = widest + 1
+
 -- the stored text or the new one
-abbrev pub either : List ℕ → List ℕ → Bool → List ℕ
-either stored new isNew = cond isNew new stored
+abbrev pub either : {A : Type 0} → Source → A → A → A
+either Stored stored new = stored
+either New stored new = new
+
+-- a part lies in memory `from` bytes after the start of a slice: a slice of the same bytes elsewhere has no such part
+pub record LiesAt (slice : ℕ × ℕ) (from : ℕ) (part : ℕ × ℕ) : Type 0 where
+  pub block : part .0 ≡ slice .0
+  pub offset : part .1 ≡ from + slice .1
 
 -- the corner of a line: its start beside x, and its top edge
 unfoldable pub lineCorner : MonoFont → TextStyle → List ℕ → ℕ → ℕ → Point

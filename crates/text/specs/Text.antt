@@ -1,4 +1,5 @@
--- A text: its lines, where each stands, what they paint, its next position and its boxes (document 01, Text). Assumes nothing.
+-- A text: its lines, where each stands, what they paint, its next position and its boxes (docs/SHEET.md, Text). Assumes nothing.
+-- To be believed: it says what a sheet means.
 use Prim.Native.Nat.{ℕ, _+_, _-_, _*_, _/_}
 use mathlib.Core.Bool.{cond}
 use mathlib.Core.List.{List, [], _∷_, map}
@@ -18,6 +19,7 @@ use Rattle.text.specs.declared.Alignment.the-variants.{Left, Center, Rig
 use Rattle.text.specs.declared.LineHeight.{LineHeight}
 use Rattle.text.specs.declared.LineHeight.the-variants.{Pixels, Percent}
 use Rattle.text.specs.declared.TextStyle.{TextStyle}
+use Rattle.text.specs.declared.TextLayout.{TextLayout}
 
 -- embedded-graphics' `Text`; its font stands beside it
 pub record Text : Type 0 where
@@ -28,6 +30,10 @@ pub record Text : Type 0 where
 
 abbrev pub textOf : List ℕ → ℕ → ℕ → MonoTextStyle → TextStyle → Text
 textOf text x y style textStyle = record { text = text; position = record { x = x; y = y }; characterStyle = style; textStyle = textStyle }
+
+-- bytes that stand and are set as a layout has it
+abbrev pub laidOut : TextLayout → List ℕ → Text
+laidOut t text = record { text = text; position = t .position; characterStyle = t .«character_style»; textStyle = t .«text_style» }
 
 -- ---- lines
 
@@ -120,6 +126,6 @@ boundingBox m t = joins (nowhere t) (map (measuredBox m t) (placedLines m t))
 unfoldable pub lineInk : MonoFont → Text → PlacedLine → Rectangle
 lineInk m t l = Line.inkBox m (t .characterStyle) (length (chars (l .text))) (l .x) (lineTop m t l)
 
--- document 01's ink box of an item: "the smallest holding its nonempty line boxes"
+-- the ink box of an item (docs/SHEET.md, Drawing and edits): "the smallest holding its nonempty line boxes"
 unfoldable pub inkBox : MonoFont → Text → Rectangle
 inkBox m t = joins (nowhere t) (map (lineInk m t) (placedLines m t))

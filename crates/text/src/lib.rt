@@ -1,6 +1,11 @@
-// A text: its lines, where each stands, its drawing and its boxes.
+// A text: its lines, where each stands, and its drawing.
+pub use boxes::Source;
+pub use boxes::bounding_box;
+pub use boxes::ink_box;
+pub use boxes::ink_box_of;
+pub use boxes::is_apart;
+use geometry::DrawTarget;
 use geometry::Point;
-use geometry::Rectangle;
 use geometry::numbers::minus;
 use line::Baseline;
 use line::MonoFont;
@@ -8,16 +13,16 @@ use line::MonoTextStyle;
 ghost use mathlib.Core.Path.{_≡_};
 ghost use Prim.Native.Nat.{_+_, _≤_};
 ghost use lib.ListN.{length, drop};
-ghost use Rattle.geometry.specs.Rectangle.{EndsFit};
-ghost use Rattle.geometry.specs.Layer.{paintIn};
-ghost use Rattle.geometry.specs.Canvas.{Canvas};
+ghost use Rattle.geometry.specs.Canvas.{Canvas, paintOn};
 ghost use Rattle.characters.specs.Utf8.{chars};
 ghost use Rattle.mapping.specs.Entries.{WithinLimit};
 ghost use Rattle.line.specs.Line.{fontOf, measuredWidth};
 ghost use Rattle.line.specs.Limits.{FontLimits};
-ghost use Rattle.text.specs.Text.{textOf, withoutReturn, alignedStart, lineHeight, placeLine, lineLayer, layer, lineNext, next, boundingBox, inkBox};
-ghost use Rattle.text.specs.Lines.{lineLength, lineFrom, either, lineCorner, lineBox, linesBox};
+ghost use Rattle.text.specs.Text.{textOf, laidOut, withoutReturn, alignedStart, lineHeight, placeLine, lineLayer, layer, lineNext, next};
+ghost use Rattle.text.specs.Lines.{lineLength, lineCorner};
 ghost use Rattle.text.specs.Limits.{TextLimits, HeightLimit, StartLimits, LineLimits};
+
+mod boxes;
 
 // Where the lines of a text stand beside its x.
 pub enum Alignment {
@@ -39,6 +44,13 @@ pub struct TextStyle {
     pub line_height: LineHeight,
 }
 
+// Where a text stands and how it is set: embedded-graphics' `Text` without its bytes, which are lent beside it.
+pub struct TextLayout {
+    pub position: Point,
+    pub character_style: MonoTextStyle,
+    pub text_style: TextStyle,
+}
+
 // Where the line that starts at `from` ends: at a line feed, or with the text.
 fn line_end(text: &[u8], from: usize) -> usize
     ensures { λ r. ⌜ r ≡ from + lineLength (drop from (now (text .entry))) ⌝ }
@@ -53,59 +65,36 @@ fn line_end(text: &[u8], from: usize) -> usize
     i
 }
 
-// The line that starts at `from`, of the new text or of the stored one.
-pub fn line_of<'a>(stored: &'a [u8], new: &'a [u8], from_new: bool, from: usize) -> &'a [u8]
-    requires { ⌜ from ≤ length (either (now stored) (now new) «from_new») ⌝ }
-    ensures { λ r. ⌜ now r ≡ lineFrom (either (now (stored .entry)) (now (new .entry)) «from_new») from ⌝ }
-{
-    if from_new {
-        let end = line_end(new, from);
-        return &new[from..end];
-    }
-    let end = line_end(stored, from);
-    &stored[from..end]
-}
-
-// How long the new text is, or the stored one.
-fn length_of(stored: &[u8], new: &[u8], from_new: bool) -> usize
-    ensures { λ r. ⌜ r ≡ length (either (now (stored .entry)) (now (new .entry)) «from_new») ⌝ }
-{
-    if from_new {
-        return new.len();
-    }
-    stored.len()
-}
-
 // A line without one trailing return.
-fn without_return(row: &[u8]) -> &[u8]
-    ensures { λ r. ⌜ now r ≡ withoutReturn (now (row .entry)) ⌝ }
-    ensures { λ r. ⌜ length (now r) ≤ length (now (row .entry)) ⌝ }
+fn without_return(line: &[u8]) -> &[u8]
+    ensures { λ r. ⌜ now r ≡ withoutReturn (now (line .entry)) ⌝ }
+    ensures { λ r. ⌜ length (now r) ≤ length (now (line .entry)) ⌝ }
 {
-    let n = row.len();
+    let n = line.len();
     if n == 0 {
-        return row;
+        return line;
     }
     let end = n - 1;
-    if row[end] == 0x0D {
-        return &row[..end];
+    if line[end] == 0x0D {
+        return &line[..end];
     }
-    row
+    line
 }
 
 // Where a line starts beside x; only an alignment that needs the line's width measures it.
-fn aligned_start(row: &[u8], font: MonoFont, alignment: Alignment, x: u32) -> u32
+fn aligned_start(line: &[u8], font: MonoFont, alignment: Alignment, x: u32) -> u32
     requires { ⌜ FontLimits font ⌝ }
-    requires { ⌜ StartLimits (length (now row)) x ⌝ }
-    ensures { λ r. ⌜ r ≡ alignedStart alignment x (measuredWidth font (length (chars (now (row .entry))))) ⌝ }
+    requires { ⌜ StartLimits (length (now line)) x ⌝ }
+    ensures { λ r. ⌜ r ≡ alignedStart alignment x (measuredWidth font (length (chars (now (line .entry))))) ⌝ }
 {
     match alignment {
         Alignment::Left => x,
         Alignment::Center => {
-            let width = line::measured_width(row, font);
+            let width = line::measured_width(line, font);
             minus(x, minus(width, 1) / 2)
         }
         Alignment::Right => {
-            let width = line::measured_width(row, font);
+            let width = line::measured_width(line, font);
             minus(x + 1, width)
         }
     }
@@ -124,13 +113,13 @@ fn line_height(font: MonoFont, height: LineHeight) -> u32
 }
 
 // The corner of a line at y: its start, measured with its return, and its top edge.
-fn line_corner(row: &[u8], font: MonoFont, text_style: TextStyle, x: u32, y: u32) -> Point
+fn line_corner(line: &[u8], font: MonoFont, text_style: TextStyle, x: u32, y: u32) -> Point
     requires { ⌜ FontLimits font ⌝ }
-    requires { ⌜ LineLimits (length (now row)) x y ⌝ }
-    ensures { λ r. ⌜ r ≡ lineCorner font «text_style» (now (row .entry)) x y ⌝ }
+    requires { ⌜ LineLimits (length (now line)) x y ⌝ }
+    ensures { λ r. ⌜ r ≡ lineCorner font «text_style» (now (line .entry)) x y ⌝ }
 {
     let alignment = text_style.alignment;
-    let left = aligned_start(row, font, alignment, x);
+    let left = aligned_start(line, font, alignment, x);
     let baseline = text_style.baseline;
     let top = minus(y, line::baseline_offset(font, baseline));
     Point { x: left, y: top }
@@ -139,202 +128,66 @@ fn line_corner(row: &[u8], font: MonoFont, text_style: TextStyle, x: u32, y: u32
 // Draws one line of a text at y, with its return if it has one; gives the next x.
 fn draw_line(
     frame: &mut [u8],
-    fw: usize,
-    fh: usize,
-    clip: Rectangle,
+    target: DrawTarget,
     atlas: &[u8],
     mapping: &[u8],
-    row: &[u8],
+    line: &[u8],
     font: MonoFont,
-    style: MonoTextStyle,
-    text_style: TextStyle,
-    x: u32,
+    layout: TextLayout,
     y: u32,
 ) -> u32
-    requires { ⌜ Canvas fw fh (length (now frame)) clip ⌝ }
+    requires { ⌜ Canvas target (length (now frame)) ⌝ }
     requires { ⌜ FontLimits font ⌝ }
     requires { ⌜ WithinLimit (now mapping) ⌝ }
-    requires { ⌜ LineLimits (length (now row)) x y ⌝ }
-    ensures { λ _. ⌜ now (frame .exit) ≡ paintIn fw clip (lineLayer (fontOf font (now (atlas .entry)) (now (mapping .entry))) (textOf (now (row .entry)) x y style «text_style») (placeLine font (textOf (now (row .entry)) x y style «text_style») (now (row .entry)) y)) (now (frame .entry)) ⌝ }
-    ensures { λ r. ⌜ r ≡ lineNext font (textOf (now (row .entry)) x y style «text_style») (placeLine font (textOf (now (row .entry)) x y style «text_style») (now (row .entry)) y) .x ⌝ }
+    requires { ⌜ LineLimits (length (now line)) (layout .position .x) y ⌝ }
+    ensures { λ _. ⌜ now (frame .exit) ≡ paintOn target (lineLayer (fontOf font (now (atlas .entry)) (now (mapping .entry))) (laidOut layout (now (line .entry))) (placeLine font (laidOut layout (now (line .entry))) (now (line .entry)) y)) (now (frame .entry)) ⌝ }
+    ensures { λ r. ⌜ r ≡ lineNext font (laidOut layout (now (line .entry))) (placeLine font (laidOut layout (now (line .entry))) (now (line .entry)) y) .x ⌝ }
 {
-    let shown = without_return(row);
-    let start = line_corner(row, font, text_style, x, y);
-    line::draw_string(
-        frame,
-        fw,
-        fh,
-        clip,
-        atlas,
-        mapping,
-        shown,
-        font,
-        style,
-        start.x,
-        start.y,
-    )
+    let shown = without_return(line);
+    let text_style = layout.text_style;
+    let corner = line_corner(line, font, text_style, layout.position.x, y);
+    let style = layout.character_style;
+    line::draw_string(frame, target, atlas, mapping, shown, font, style, corner)
 }
 
 // Draws a text; gives the next position of its last line.
 pub fn draw(
     frame: &mut [u8],
-    fw: usize,
-    fh: usize,
-    clip: Rectangle,
+    target: DrawTarget,
     atlas: &[u8],
     mapping: &[u8],
     text: &[u8],
     font: MonoFont,
-    style: MonoTextStyle,
-    text_style: TextStyle,
-    x: u32,
-    y: u32,
+    layout: TextLayout,
 ) -> Point
-    requires { ⌜ Canvas fw fh (length (now frame)) clip ⌝ }
+    requires { ⌜ Canvas target (length (now frame)) ⌝ }
     requires { ⌜ FontLimits font ⌝ }
     requires { ⌜ WithinLimit (now mapping) ⌝ }
-    requires { ⌜ TextLimits (length (now text)) x y («text_style» .«line_height») ⌝ }
-    ensures { λ _. ⌜ now (frame .exit) ≡ paintIn fw clip (layer (fontOf font (now (atlas .entry)) (now (mapping .entry))) (textOf (now (text .entry)) x y style «text_style»)) (now (frame .entry)) ⌝ }
-    ensures { λ r. ⌜ r ≡ next font (textOf (now (text .entry)) x y style «text_style») ⌝ }
+    requires { ⌜ TextLimits (length (now text)) (layout .position .x) (layout .position .y) (layout .«text_style» .«line_height») ⌝ }
+    ensures { λ _. ⌜ now (frame .exit) ≡ paintOn target (layer (fontOf font (now (atlas .entry)) (now (mapping .entry))) (laidOut layout (now (text .entry)))) (now (frame .entry)) ⌝ }
+    ensures { λ r. ⌜ r ≡ next font (laidOut layout (now (text .entry))) ⌝ }
 {
+    let text_style = layout.text_style;
     let kind = text_style.line_height;
     let height = line_height(font, kind);
     let mut from: usize = 0;
-    let mut at = y;
+    let mut y = layout.position.y;
     loop {
         let end = line_end(text, from);
         let next = draw_line(
             frame,
-            fw,
-            fh,
-            clip,
+            target,
             atlas,
             mapping,
             &text[from..end],
             font,
-            style,
-            text_style,
-            x,
-            at,
+            layout,
+            y,
         );
         if text.len() <= end {
-            return Point { x: next, y: at };
+            return Point { x: next, y };
         }
         from = end + 1;
-        at = at + height;
+        y = y + height;
     }
-}
-
-// The ink box of one line of a text at y, or its measured box.
-fn line_box(
-    row: &[u8],
-    ink: bool,
-    font: MonoFont,
-    style: MonoTextStyle,
-    text_style: TextStyle,
-    x: u32,
-    y: u32,
-) -> Rectangle
-    requires { ⌜ FontLimits font ⌝ }
-    requires { ⌜ LineLimits (length (now row)) x y ⌝ }
-    ensures { λ r. ⌜ r ≡ lineBox ink font (textOf (now (row .entry)) x y style «text_style») (placeLine font (textOf (now (row .entry)) x y style «text_style») (now (row .entry)) y) ⌝ }
-{
-    let shown = without_return(row);
-    let corner = line_corner(row, font, text_style, x, y);
-    if ink {
-        return line::ink_box(shown, font, style, corner.x, corner.y);
-    }
-    line::measure_string(shown, font, style, corner.x, corner.y)
-}
-
-// The smallest rectangle that holds the boxes, of ink or measured, of the lines of the new text or of the stored one.
-fn lines_box<'a>(
-    stored: &'a [u8],
-    new: &'a [u8],
-    from_new: bool,
-    ink: bool,
-    font: MonoFont,
-    style: MonoTextStyle,
-    text_style: TextStyle,
-    x: u32,
-    y: u32,
-) -> Rectangle
-    requires { ⌜ FontLimits font ⌝ }
-    requires { ⌜ TextLimits (length (either (now stored) (now new) «from_new»)) x y («text_style» .«line_height») ⌝ }
-    ensures { λ r. ⌜ r ≡ linesBox ink font (textOf (either (now (stored .entry)) (now (new .entry)) «from_new») x y style «text_style») ⌝ }
-    ensures { λ r. ⌜ EndsFit r ⌝ }
-{
-    let kind = text_style.line_height;
-    let height = line_height(font, kind);
-    let size = length_of(stored, new, from_new);
-    let mut area = Rectangle {
-        left: x,
-        top: y,
-        width: 0,
-        height: 0,
-    };
-    let mut from: usize = 0;
-    let mut at = y;
-    loop {
-        let row = line_of(stored, new, from_new, from);
-        let end = from + row.len();
-        let shown = line_box(row, ink, font, style, text_style, x, at);
-        area = area.join(shown);
-        if size <= end {
-            return area;
-        }
-        from = end + 1;
-        at = at + height;
-    }
-}
-
-// The measured box of a text.
-pub fn bounding_box(
-    text: &[u8],
-    font: MonoFont,
-    style: MonoTextStyle,
-    text_style: TextStyle,
-    x: u32,
-    y: u32,
-) -> Rectangle
-    requires { ⌜ FontLimits font ⌝ }
-    requires { ⌜ TextLimits (length (now text)) x y («text_style» .«line_height») ⌝ }
-    ensures { λ r. ⌜ r ≡ boundingBox font (textOf (now (text .entry)) x y style «text_style») ⌝ }
-{
-    lines_box(text, text, false, false, font, style, text_style, x, y)
-}
-
-// The ink box of a text.
-pub fn ink_box(
-    text: &[u8],
-    font: MonoFont,
-    style: MonoTextStyle,
-    text_style: TextStyle,
-    x: u32,
-    y: u32,
-) -> Rectangle
-    requires { ⌜ FontLimits font ⌝ }
-    requires { ⌜ TextLimits (length (now text)) x y («text_style» .«line_height») ⌝ }
-    ensures { λ r. ⌜ r ≡ inkBox font (textOf (now (text .entry)) x y style «text_style») ⌝ }
-{
-    lines_box(text, text, false, true, font, style, text_style, x, y)
-}
-
-// The ink box of the new text, or of the stored one.
-pub fn ink_box_of<'a>(
-    stored: &'a [u8],
-    new: &'a [u8],
-    from_new: bool,
-    font: MonoFont,
-    style: MonoTextStyle,
-    text_style: TextStyle,
-    x: u32,
-    y: u32,
-) -> Rectangle
-    requires { ⌜ FontLimits font ⌝ }
-    requires { ⌜ TextLimits (length (either (now stored) (now new) «from_new»)) x y («text_style» .«line_height») ⌝ }
-    ensures { λ r. ⌜ r ≡ inkBox font (textOf (either (now (stored .entry)) (now (new .entry)) «from_new») x y style «text_style») ⌝ }
-    ensures { λ r. ⌜ EndsFit r ⌝ }
-{
-    lines_box(stored, new, from_new, true, font, style, text_style, x, y)
 }

@@ -1,6 +1,6 @@
--- `draw_glyph` meets its contract: where the clip shows the glyph's cell, the shown part of the cell in the atlas is drawn. Assumes nothing.
+-- `draw_glyph` meets its contract: where the target shows the glyph's cell, the shown part of the cell in the atlas is drawn. Assumes nothing.
 use borrow.Author.Needs.{needs}
-use Rattle.geometry.proofs.Clips.{shown-left, shown-top, shown-past-left, shown-past-top, shown-canvas}
+use Rattle.geometry.proofs.Clips.{shown-starts, shown-past-left, shown-past-top, part-in-frame}
 use Rattle.atlas.proofs.Shown.{glyph-unshown, glyph-missing, column-shown-fits, row-shown-fits, shown-sub-image, glyph-shown}
 use Rattle.atlas.proofs.draw_glyph.Statement.{statement}
 use Rattle.atlas.proofs.draw_glyph.Tie as tie
@@ -50,33 +50,18 @@ cast-y c = search needs
 add-y : tie.Need-add-y
 add-y c = search row-shown-fits
 
-sub-l : tie.Need-sub-l
-sub-l c = search shown-left
-
-cast-l : tie.Need-cast-l
-cast-l c = search needs
-
-sub-t : tie.Need-sub-t
-sub-t c = search shown-top
-
-cast-t : tie.Need-cast-t
-cast-t c = search needs
-
-cast-w : tie.Need-cast-w
-cast-w c = search needs
-
-cast-h : tie.Need-cast-h
-cast-h c = search needs
+on-frame-requires : tie.Need-on-frame-requires
+on-frame-requires c κs = search shown-starts
 
 draw-sub-image-requires : tie.Need-draw-sub-image-requires
-draw-sub-image-requires c κs = (search shown-canvas, search shown-sub-image)
+draw-sub-image-requires c κs = (search part-in-frame, search shown-sub-image)
 
 same-length : tie.Need-same-length
 same-length c = search needs
 
 returns-3 : tie.Need-returns-3
 returns-3 c =
-    let d = c .before .before .before .before .before .before .before .before .before .before .before .before in
+    let canvas = c .before .before .before .before .before .before .before .before .before .before .before .before .before .before .before .before .before .before .before .pre .0 in
     search glyph-shown
 
 pub draw-glyph-spec : {M : Type 1} → statement M
@@ -98,12 +83,7 @@ draw-glyph-spec =
     sub-y
     cast-y
     add-y
-    sub-l
-    cast-l
-    sub-t
-    cast-t
-    cast-w
-    cast-h
+    on-frame-requires
     draw-sub-image-requires
     same-length
     returns-3)

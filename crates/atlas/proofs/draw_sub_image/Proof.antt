@@ -1,4 +1,4 @@
--- `draw_sub_image` meets its contract: at row k the first k rows of the rectangle are drawn. Assumes nothing.
+-- `draw_sub_image` meets its contract: at row k the first k rows of the area are drawn. Assumes nothing.
 use Prim.Native.Nat.{_+_, _-_}
 use borrow.Author.Needs.{needs}
 use Rattle.geometry.specs.Layer.{origin}
@@ -9,10 +9,11 @@ use Rattle.atlas.proofs.draw_sub_image.Statement.{statement}
 use Rattle.atlas.proofs.draw_sub_image.Tie as tie
 
 abbrev Inv-loop : tie.InvT-loop
-Inv-loop frame₀ fw fh left top width height bytes stride x y text background k₀ frame k = RowsPainted fw left top width height k (image bytes stride x y (origin + left) (origin + top) text background) frame₀ frame
+Inv-loop frame₀ fw area bytes stride x y text background k₀ frame k =
+    RowsPainted fw area k (image bytes stride x y (origin + area .left) (origin + area .top) text background) frame₀ frame
 
 abbrev μ-loop : tie.MeasureT-loop
-μ-loop frame₀ fw fh left top width height bytes stride x y text background k₀ frame k = height - k
+μ-loop frame₀ fw area bytes stride x y text background k₀ frame k = area .height - k
 
 loop-holds : tie.Need-loop-holds Inv-loop μ-loop
 loop-holds c = search rows-start

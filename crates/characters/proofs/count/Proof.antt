@@ -4,6 +4,7 @@ use Prim.Native.Nat.{_≤_, _-_, _+_}
 use borrow.Author.Needs.{needs}
 use lib.ListN.{length}
 use Rattle.characters.specs.Utf8.{charsFrom}
+use Rattle.characters.proofs.Ascii.{ascii-head}
 use Rattle.characters.proofs.Walks.{step-within, step-less, count-again, count-below, count-stopped}
 use Rattle.characters.proofs.count.Statement.{statement}
 use Rattle.characters.proofs.count.Tie as tie
@@ -18,7 +19,7 @@ ascii-length-requires : tie.Need-ascii-length-requires Inv-loop μ-loop
 ascii-length-requires c κs = search needs
 
 loop-holds : tie.Need-loop-holds Inv-loop μ-loop
-loop-holds c = search needs
+loop-holds c = let h = ascii-head _ _ (c .ascii-length .ensures) in search needs
 
 next-requires : tie.Need-next-requires Inv-loop μ-loop
 next-requires c κs = search needs

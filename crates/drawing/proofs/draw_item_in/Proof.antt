@@ -5,17 +5,8 @@ use Rattle.drawing.proofs.Readings.{mapping-limit, item-limits, item-pa
 use Rattle.drawing.proofs.draw_item_in.Statement.{statement}
 use Rattle.drawing.proofs.draw_item_in.Tie as tie
 
-frame-width-requires : tie.Need-frame-width-requires
-frame-width-requires c κs = search needs
-
-cast-fw : tie.Need-cast-fw
-cast-fw c = search needs
-
-frame-height-requires : tie.Need-frame-height-requires
-frame-height-requires c κs = search needs
-
-cast-fh : tie.Need-cast-fh
-cast-fh c = search needs
+target-of-requires : tie.Need-target-of-requires
+target-of-requires c κs = search needs
 
 item-at-requires : tie.Need-item-at-requires
 item-at-requires c κs = search needs
@@ -42,10 +33,7 @@ pub draw-item-in-spec : {M : Type 1} → statement M
 draw-item-in-spec =
     tie.close
     (tie.spec
-    frame-width-requires
-    cast-fw
-    frame-height-requires
-    cast-fh
+    target-of-requires
     item-at-requires
     atlas-bytes-requires
     mapping-bytes-requires

@@ -5,17 +5,8 @@ use Rattle.drawing.proofs.Readings.{canvas-read}
 use Rattle.drawing.proofs.repaint.Statement.{statement}
 use Rattle.drawing.proofs.repaint.Tie as tie
 
-frame-width-requires : tie.Need-frame-width-requires
-frame-width-requires c κs = search needs
-
-cast-fw : tie.Need-cast-fw
-cast-fw c = search needs
-
-frame-height-requires : tie.Need-frame-height-requires
-frame-height-requires c κs = search needs
-
-cast-fh : tie.Need-cast-fh
-cast-fh c = search needs
+target-of-requires : tie.Need-target-of-requires
+target-of-requires c κs = search needs
 
 paper-requires : tie.Need-paper-requires
 paper-requires c κs = search needs
@@ -42,10 +33,7 @@ pub repaint-spec : {M : Type 1} → statement M
 repaint-spec =
     tie.close
     (tie.spec
-    frame-width-requires
-    cast-fw
-    frame-height-requires
-    cast-fh
+    target-of-requires
     paper-requires
     fill-solid-requires
     cast-whole

@@ -1,6 +1,5 @@
 -- The invariant: the index is within the bytes. Assumes nothing.
 use Prim.Native.Nat.{_≤_, _-_}
-use mathlib.Core.Path.{_≡_}
 use lib.ListN.{length}
 use borrow.Author.Needs.{needs}
 use Rattle.edit_lists.proofs.outside_kept.Statement.{statement}

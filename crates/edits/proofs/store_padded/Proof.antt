@@ -29,7 +29,7 @@ loop-less : tie.Need-loop-less Inv-loop μ-loop
 loop-less c = search needs
 
 loop-again : tie.Need-loop-again Inv-loop μ-loop
-loop-again c = (search needs, search needs, search padded-more)
+loop-again c = (search needs, search needs, search (padded-more, slice-write-to c))
 
 same-length : tie.Need-same-length Inv-loop μ-loop
 same-length c = search needs

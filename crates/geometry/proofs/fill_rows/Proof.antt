@@ -1,4 +1,4 @@
--- `fill_rows` meets its contract: at row k the first k rows of the rectangle are filled. Assumes nothing.
+-- `fill_rows` meets its contract: at row k the first k rows of the area are filled. Assumes nothing.
 use Prim.Native.Nat.{_-_}
 use borrow.Author.Needs.{needs}
 use Rattle.geometry.specs.Layer.{filled}
@@ -8,10 +8,10 @@ use Rattle.geometry.proofs.fill_rows.Statement.{statement}
 use Rattle.geometry.proofs.fill_rows.Tie as tie
 
 abbrev Inv-loop : tie.InvT-loop
-Inv-loop frame₀ fw fh left top width height grey k₀ frame k = RowsPainted fw left top width height k (solid grey) frame₀ frame
+Inv-loop frame₀ fw area grey k₀ frame k = RowsPainted fw area k (solid grey) frame₀ frame
 
 abbrev μ-loop : tie.MeasureT-loop
-μ-loop frame₀ fw fh left top width height grey k₀ frame k = height - k
+μ-loop frame₀ fw area grey k₀ frame k = area .height - k
 
 loop-holds : tie.Need-loop-holds Inv-loop μ-loop
 loop-holds c = search rows-start

@@ -1,6 +1,6 @@
--- `fill_solid` meets its contract: an empty area is not filled, and else what the clip shows of it is, which lies in the frame unless it is empty. Assumes nothing.
+-- `fill_solid` meets its contract: an empty area is not filled, and else what the target shows of it is, which lies in the frame unless it is empty. Assumes nothing.
 use borrow.Author.Needs.{needs}
-use Rattle.geometry.proofs.Clips.{shown-left, shown-top, shown-canvas}
+use Rattle.geometry.proofs.Clips.{shown-starts, part-in-frame}
 use Rattle.geometry.proofs.Fills.{fill-empty, fill-unshown, fill-shown}
 use Rattle.geometry.proofs.fill_solid.Statement.{statement}
 use Rattle.geometry.proofs.fill_solid.Tie as tie
@@ -20,26 +20,11 @@ is-empty-requires-2 c κs = search needs
 returns-2 : tie.Need-returns-2
 returns-2 c = search fill-unshown
 
-sub-left : tie.Need-sub-left
-sub-left c = search shown-left
+on-frame-requires : tie.Need-on-frame-requires
+on-frame-requires c κs = search shown-starts
 
-cast-left : tie.Need-cast-left
-cast-left c = search needs
-
-sub-top : tie.Need-sub-top
-sub-top c = search shown-top
-
-cast-top : tie.Need-cast-top
-cast-top c = search needs
-
-cast-width : tie.Need-cast-width
-cast-width c = search needs
-
-cast-height : tie.Need-cast-height
-cast-height c = search needs
-
-fill-box-requires : tie.Need-fill-box-requires
-fill-box-requires c κs = search shown-canvas
+fill-area-requires : tie.Need-fill-area-requires
+fill-area-requires c κs = search part-in-frame
 
 same-length : tie.Need-same-length
 same-length c = search needs
@@ -56,12 +41,7 @@ fill-solid-spec =
     intersection-requires
     is-empty-requires-2
     returns-2
-    sub-left
-    cast-left
-    sub-top
-    cast-top
-    cast-width
-    cast-height
-    fill-box-requires
+    on-frame-requires
+    fill-area-requires
     same-length
     returns-3)

@@ -1,6 +1,7 @@
 -- Each return follows from the tests passed and the one that failed. Assumes nothing.
+use mathlib.Core.Bool.{and-false}
 use borrow.Author.Needs.{needs}
-use Rattle.limits.proofs.Modes.{and-false, mode-unknown, item-passes}
+use Rattle.limits.proofs.Modes.{mode-unknown, item-passes}
 use Rattle.limits.specs.Limits.{itemLimits}
 use Rattle.characters.proofs.Tests.{tests}
 use Rattle.limits.proofs.item_limits.Statement.{statement}
@@ -8,15 +9,15 @@ use Rattle.limits.proofs.item_limits.Tie as tie
 
 returns : tie.Need-returns
 unfolding itemLimits
-returns c = search (tests, and-false)
+returns c = search tests
 
 returns-2 : tie.Need-returns-2
 unfolding itemLimits
-returns-2 c = search (tests, and-false)
+returns-2 c = search tests
 
 returns-3 : tie.Need-returns-3
 unfolding itemLimits
-returns-3 c = search (tests, and-false)
+returns-3 c = search tests
 
 good-modes-requires : tie.Need-good-modes-requires
 good-modes-requires c κs = search needs

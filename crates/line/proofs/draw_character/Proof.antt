@@ -1,4 +1,4 @@
--- `draw_character` meets its contract: what the clip does not show changes nothing in it, and else the gap and the glyph are painted in turn. Assumes nothing.
+-- `draw_character` meets its contract: what the target does not show changes nothing in it, and else the gap and the glyph are painted in turn. Assumes nothing.
 use borrow.Author.Needs.{needs}
 use Rattle.line.proofs.Strings.{character-unshown, character-painted}
 use Rattle.line.proofs.draw_character.Statement.{statement}
@@ -19,8 +19,8 @@ fill-requires c κs = search needs
 index-with-requires : tie.Need-index-with-requires
 index-with-requires c κs = search needs
 
-add-left : tie.Need-add-left
-add-left c = search needs
+add-x : tie.Need-add-x
+add-x c = search needs
 
 draw-glyph-requires : tie.Need-draw-glyph-requires
 draw-glyph-requires c κs = search needs
@@ -40,7 +40,7 @@ draw-character-spec =
     returns
     fill-requires
     index-with-requires
-    add-left
+    add-x
     draw-glyph-requires
     same-length
     returns-2)

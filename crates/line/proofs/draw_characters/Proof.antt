@@ -15,7 +15,7 @@ first-entry-requires : tie.Need-first-entry-requires
 first-entry-requires c κs = search needs
 
 draw-glyphs-requires : tie.Need-draw-glyphs-requires
-draw-glyphs-requires c κs = (search needs, (search needs, (search needs, (search needs, (search needs, search needs)))))
+draw-glyphs-requires c κs = (search needs, (search needs, search needs))
 
 same-length : tie.Need-same-length
 same-length c = search needs
@@ -30,7 +30,7 @@ add-result : tie.Need-add-result
 add-result c = search next-fits
 
 returns-2 : tie.Need-returns-2
-returns-2 c = (search glyphs-unshown, rw (c .advance .ensures))
+returns-2 c = (search glyphs-unshown, rw (c .before .advance .ensures))
 
 pub draw-characters-spec : {M : Type 1} → statement M
 draw-characters-spec =

@@ -4,8 +4,8 @@ use Rattle.line.specs.Line.{decoration}
 use Rattle.line.proofs.draw_decoration.Statement.{statement}
 use Rattle.line.proofs.draw_decoration.Tie as tie
 
-add-t11 : tie.Need-add-t11
-add-t11 c = search needs
+add-top : tie.Need-add-top
+add-top c = search needs
 
 fill-requires : tie.Need-fill-requires
 fill-requires c κs = search needs
@@ -18,4 +18,4 @@ unfolding decoration
 returns c = search needs
 
 pub draw-decoration-spec : {M : Type 1} → statement M
-draw-decoration-spec = tie.close (tie.spec add-t11 fill-requires same-length returns)
+draw-decoration-spec = tie.close (tie.spec add-top fill-requires same-length returns)

@@ -9,11 +9,11 @@ use Rattle.line.proofs.draw_glyphs.Statement.{statement}
 use Rattle.line.proofs.draw_glyphs.Tie as tie
 
 abbrev Inv-loop : tie.InvT-loop
-Inv-loop frame₀ fw fh clip atlas mapping cells first text font style left top width spacing c₀ x₀ gap₀ frame c x gap =
-    Drawn fw clip (fontOf font atlas mapping) style text left top frame₀ gap (c .at) x frame
+Inv-loop frame₀ target atlas mapping text style corner width spacing c₀ x₀ gap₀ frame c x gap =
+    Drawn target (fontOf (style .font) atlas mapping) (style .colors) text (corner .x) (corner .y) frame₀ gap (c .at) x frame
 
 abbrev μ-loop : tie.MeasureT-loop
-μ-loop frame₀ fw fh clip atlas mapping cells first text font style left top width spacing c₀ x₀ gap₀ frame c x gap =
+μ-loop frame₀ target atlas mapping text style corner width spacing c₀ x₀ gap₀ frame c x gap =
     length text - c .at
 
 loop-holds : tie.Need-loop-holds Inv-loop μ-loop
@@ -32,7 +32,7 @@ returns : tie.Need-returns Inv-loop μ-loop
 returns c = (search drawn-end, search walked-stopped)
 
 draw-character-requires : tie.Need-draw-character-requires Inv-loop μ-loop
-draw-character-requires c κs = (search needs, (search needs, (search needs, (search needs, (search needs, search needs)))))
+draw-character-requires c κs = (search needs, (search needs, search needs))
 
 add-x : tie.Need-add-x Inv-loop μ-loop
 add-x c = search needs

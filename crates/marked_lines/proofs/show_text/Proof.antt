@@ -1,4 +1,4 @@
--- The invariant: the cursor is within the bytes; each step brings it further. Assumes nothing.
+-- Each step goes forward, within the text. Assumes nothing.
 use Prim.Native.Nat.{_≤_, _-_}
 use lib.ListN.{length}
 use Rattle.characters.proofs.Walks.{step-within, step-less}
@@ -7,25 +7,10 @@ use Rattle.marked_lines.proofs.show_text.Statement.{statement}
 use Rattle.marked_lines.proofs.show_text.Tie as tie
 
 abbrev Inv-loop : tie.InvT-loop
-Inv-loop bytes c₀ t7 t8 t9 t10 c = c .at ≤ length bytes
+Inv-loop bytes c₀ t5 t6 t7 c = c .at ≤ length bytes
 
 abbrev μ-loop : tie.MeasureT-loop
-μ-loop bytes c₀ t7 t8 t9 t10 c = length bytes - c .at
-
-slice-aggregate-write-all : tie.Need-slice-aggregate-write-all Inv-loop μ-loop
-slice-aggregate-write-all c = search needs
-
-write-all-requires : tie.Need-write-all-requires Inv-loop μ-loop
-write-all-requires c κs = search needs
-
-write-bytes-requires : tie.Need-write-bytes-requires Inv-loop μ-loop
-write-bytes-requires c κs = search needs
-
-slice-aggregate-write-all-2 : tie.Need-slice-aggregate-write-all-2 Inv-loop μ-loop
-slice-aggregate-write-all-2 c = search needs
-
-write-all-requires-2 : tie.Need-write-all-requires-2 Inv-loop μ-loop
-write-all-requires-2 c κs = search needs
+μ-loop bytes c₀ t5 t6 t7 c = length bytes - c .at
 
 loop-holds : tie.Need-loop-holds Inv-loop μ-loop
 loop-holds c = search needs
@@ -57,17 +42,8 @@ write-number-requires-2 c κs = search needs
 returns : tie.Need-returns Inv-loop μ-loop
 returns c = search needs
 
-slice-aggregate-write-all-3 : tie.Need-slice-aggregate-write-all-3 Inv-loop μ-loop
-slice-aggregate-write-all-3 c = search needs
-
-write-all-requires-3 : tie.Need-write-all-requires-3 Inv-loop μ-loop
-write-all-requires-3 c κs = search needs
-
-cast-print-hex : tie.Need-cast-print-hex Inv-loop μ-loop
-cast-print-hex c = search needs
-
-print-hex-requires : tie.Need-print-hex-requires Inv-loop μ-loop
-print-hex-requires c κs = search needs
+write-hex-requires : tie.Need-write-hex-requires Inv-loop μ-loop
+write-hex-requires c κs = search needs
 
 loop-less : tie.Need-loop-less Inv-loop μ-loop
 loop-less c = search step-less
@@ -93,11 +69,6 @@ show-text-spec =
     (tie.spec
     Inv-loop
     μ-loop
-    slice-aggregate-write-all
-    write-all-requires
-    write-bytes-requires
-    slice-aggregate-write-all-2
-    write-all-requires-2
     loop-holds
     next-requires
     enum-known-ch
@@ -108,10 +79,7 @@ show-text-spec =
     cast-write-number
     write-number-requires-2
     returns
-    slice-aggregate-write-all-3
-    write-all-requires-3
-    cast-print-hex
-    print-hex-requires
+    write-hex-requires
     loop-less
     loop-again
     slice-aggregate-write-number-3

@@ -1,16 +1,20 @@
 -- Each return follows from the codes passed. Assumes nothing.
-use Rattle.records.proofs.Codes.{is-none, is-text-color, is-custom}
+use Rattle.characters.proofs.Tests.{tests}
+use Rattle.records.specs.Records.{decorationColor}
 use Rattle.records.proofs.decoration_color.Statement.{statement}
 use Rattle.records.proofs.decoration_color.Tie as tie
 
 returns : tie.Need-returns
-returns c = search is-none
+unfolding decorationColor
+returns c = search tests
 
 returns-2 : tie.Need-returns-2
-returns-2 c = search is-text-color
+unfolding decorationColor
+returns-2 c = search tests
 
 returns-3 : tie.Need-returns-3
-returns-3 c = search is-custom
+unfolding decorationColor
+returns-3 c = search tests
 
 pub decoration-color-spec : {M : Type 1} → statement M
 decoration-color-spec = tie.close (tie.spec returns returns-2 returns-3)

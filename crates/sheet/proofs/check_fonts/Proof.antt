@@ -3,7 +3,7 @@ use Prim.Native.Nat.{_≤_, _-_}
 use mathlib.Core.Path.{_≡_}
 use borrow.Author.Needs.{needs}
 use Rattle.sheet.proofs.Outcomes.{font-in-at}
-use Rattle.sheet.proofs.Loops.{check-fonts-start, refusal-more, refusal-found, refusal-done, font-refusal-is}
+use Rattle.sheet.proofs.Loops.{refusal-start, refusal-more, refusal-found, refusal-done, font-refusal-is}
 use Rattle.sheet.specs.Check.{firstRefusal, fontRefusal, checkFonts}
 use Rattle.sheet.proofs.check_fonts.Statement.{statement}
 use Rattle.sheet.proofs.check_fonts.Tie as tie
@@ -18,7 +18,8 @@ font-count-requires : tie.Need-font-count-requires Inv-loop μ-loop
 font-count-requires c κs = search needs
 
 loop-holds : tie.Need-loop-holds Inv-loop μ-loop
-loop-holds c = (search needs, search check-fonts-start)
+unfolding checkFonts
+loop-holds c = (search needs, search refusal-start)
 
 font-offset-requires : tie.Need-font-offset-requires Inv-loop μ-loop
 font-offset-requires c κs = search needs

@@ -4,8 +4,14 @@ use Rattle.sheet.proofs.Outcomes.{item-refused, text-fits, tail-in, tex
 use Rattle.sheet.proofs.check_item.Statement.{statement}
 use Rattle.sheet.proofs.check_item.Tie as tie
 
-item-numbers-requires : tie.Need-item-numbers-requires
-item-numbers-requires c κs = search needs
+item-fields-requires : tie.Need-item-fields-requires
+item-fields-requires c κs = search needs
+
+font-count-requires : tie.Need-font-count-requires
+font-count-requires c κs = search needs
+
+item-limits-requires : tie.Need-item-limits-requires
+item-limits-requires c κs = search needs
 
 returns : tie.Need-returns
 returns c = search item-refused
@@ -56,7 +62,9 @@ pub check-item-spec : {M : Type 1} → statement M
 check-item-spec =
     tie.close
     (tie.spec
-    item-numbers-requires
+    item-fields-requires
+    font-count-requires
+    item-limits-requires
     returns
     add-u32-at
     u32-at-requires

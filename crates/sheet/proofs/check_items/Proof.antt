@@ -3,7 +3,7 @@ use Prim.Native.Nat.{_≤_, _-_}
 use mathlib.Core.Path.{_≡_}
 use borrow.Author.Needs.{needs}
 use Rattle.sheet.proofs.Outcomes.{item-in-at}
-use Rattle.sheet.proofs.Loops.{check-items-start, refusal-more, refusal-found, refusal-done, item-refusal-is}
+use Rattle.sheet.proofs.Loops.{refusal-start, refusal-more, refusal-found, refusal-done, item-refusal-is}
 use Rattle.sheet.specs.Check.{firstRefusal, itemRefusal, checkItems}
 use Rattle.sheet.proofs.check_items.Statement.{statement}
 use Rattle.sheet.proofs.check_items.Tie as tie
@@ -18,7 +18,8 @@ item-count-requires : tie.Need-item-count-requires Inv-loop μ-loop
 item-count-requires c κs = search needs
 
 loop-holds : tie.Need-loop-holds Inv-loop μ-loop
-loop-holds c = (search needs, search check-items-start)
+unfolding checkItems
+loop-holds c = (search needs, search refusal-start)
 
 item-offset-requires : tie.Need-item-offset-requires Inv-loop μ-loop
 item-offset-requires c κs = search needs

@@ -2,7 +2,7 @@
 use borrow.Author.Needs.{needs}
 use Rattle.calls.specs.Calls.{containsReply}
 use Rattle.calls.proofs.Refusals.{font-listed}
-use Rattle.station.proofs.Calls.{number-refused, contains-yes, contains-no}
+use Rattle.station.proofs.Calls.{number-refused, mapping-within, contains-yes, contains-no}
 use Rattle.station.proofs.station_contains.Statement.{statement}
 use Rattle.station.proofs.station_contains.Tie as tie
 
@@ -20,7 +20,7 @@ mapping-bytes-requires : tie.Need-mapping-bytes-requires
 mapping-bytes-requires c κs = search font-listed
 
 contains-requires : tie.Need-contains-requires
-contains-requires c κs = search needs
+contains-requires c κs = search mapping-within
 
 returns-2 : tie.Need-returns-2
 returns-2 c = search contains-yes

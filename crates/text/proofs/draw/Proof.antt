@@ -10,12 +10,11 @@ use Rattle.text.proofs.draw.Statement.{statement}
 use Rattle.text.proofs.draw.Tie as tie
 
 abbrev Inv-loop : tie.InvT-loop
-Inv-loop frame₀ fw fh clip atlas mapping text font style text-style x y height from₀ at₀ frame from at =
-    LinesDrawn fw clip (fontOf font atlas mapping) text x y style text-style frame₀ from at frame
+Inv-loop frame₀ target atlas mapping text font layout height from₀ y₀ frame from y =
+    LinesDrawn target (fontOf font atlas mapping) text layout frame₀ from y frame
 
 abbrev μ-loop : tie.MeasureT-loop
-μ-loop frame₀ fw fh clip atlas mapping text font style text-style x y height from₀ at₀ frame from at =
-    length text - from
+μ-loop frame₀ target atlas mapping text font layout height from₀ y₀ frame from y = length text - from
 
 line-height-requires : tie.Need-line-height-requires Inv-loop μ-loop
 line-height-requires c κs = search needs
@@ -47,8 +46,8 @@ returns c = (search draw-last, search next-last)
 add-from : tie.Need-add-from Inv-loop μ-loop
 add-from c = search needs
 
-add-at : tie.Need-add-at Inv-loop μ-loop
-add-at c = search at-fits
+add-y : tie.Need-add-y Inv-loop μ-loop
+add-y c = search at-fits
 
 loop-less : tie.Need-loop-less Inv-loop μ-loop
 loop-less c = search line-less
@@ -72,6 +71,6 @@ draw-spec =
     same-length
     returns
     add-from
-    add-at
+    add-y
     loop-less
     loop-again)

@@ -7,6 +7,9 @@ use Rattle.calls.proofs.replies.signed.Tie as tie
 cast-result : tie.Need-cast-result
 cast-result c = search needs
 
+cast-result-2 : tie.Need-cast-result-2
+cast-result-2 c = search needs
+
 sub-result : tie.Need-sub-result
 sub-result c = search difference-fits
 
@@ -14,4 +17,4 @@ returns : tie.Need-returns
 returns c = search difference-is
 
 pub signed-spec : {M : Type 1} → statement M
-signed-spec = tie.close (tie.spec cast-result sub-result returns)
+signed-spec = tie.close (tie.spec cast-result cast-result-2 sub-result returns)

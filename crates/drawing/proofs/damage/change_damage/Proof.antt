@@ -1,6 +1,6 @@
 -- The boxes before and after are those of the item and of the change. Assumes nothing.
 use borrow.Author.Needs.{needs}
-use Rattle.drawing.proofs.Changes.{before-limits, after-limits, change-cut}
+use Rattle.drawing.proofs.Changes.{after-limits, change-cut}
 use Rattle.drawing.proofs.damage.change_damage.Statement.{statement}
 use Rattle.drawing.proofs.damage.change_damage.Tie as tie
 
@@ -10,14 +10,14 @@ item-at-requires c κs = search needs
 text-bytes-requires : tie.Need-text-bytes-requires
 text-bytes-requires c κs = search needs
 
-ink-box-of-requires : tie.Need-ink-box-of-requires
-ink-box-of-requires c κs = (search needs, search before-limits)
+item-ink-requires : tie.Need-item-ink-requires
+item-ink-requires c κs = search needs
 
-ink-box-of-requires-2 : tie.Need-ink-box-of-requires-2
-ink-box-of-requires-2 c κs = (search needs, search after-limits)
+ink-box-requires : tie.Need-ink-box-requires
+ink-box-requires c κs = (search needs, search after-limits)
 
 damage-of-requires : tie.Need-damage-of-requires
-damage-of-requires c κs = (c .before .before .before .before .before .before .before .before .before .before .pre .0 .accepted, (search needs, search needs))
+damage-of-requires c κs = (search needs, (search needs, search needs))
 
 returns : tie.Need-returns
 returns c = search change-cut
@@ -28,7 +28,7 @@ change-damage-spec =
     (tie.spec
     item-at-requires
     text-bytes-requires
-    ink-box-of-requires
-    ink-box-of-requires-2
+    item-ink-requires
+    ink-box-requires
     damage-of-requires
     returns)

@@ -4,11 +4,11 @@ use Rattle.drawing.proofs.Changes.{cut-none, cut-some}
 use Rattle.drawing.proofs.damage.damage_of.Statement.{statement}
 use Rattle.drawing.proofs.damage.damage_of.Tie as tie
 
-join-requires : tie.Need-join-requires
-join-requires c κs = search needs
-
 frame-of-requires : tie.Need-frame-of-requires
 frame-of-requires c κs = search needs
+
+join-requires : tie.Need-join-requires
+join-requires c κs = search needs
 
 intersection-requires : tie.Need-intersection-requires
 intersection-requires c κs = search needs
@@ -26,8 +26,8 @@ pub damage-of-spec : {M : Type 1} → statement M
 damage-of-spec =
     tie.close
     (tie.spec
-    join-requires
     frame-of-requires
+    join-requires
     intersection-requires
     is-empty-requires
     returns

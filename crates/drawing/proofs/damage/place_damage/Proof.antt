@@ -1,6 +1,6 @@
 -- The change is the edit: what is read after it is the item at the new place. Assumes nothing.
 use Rattle.edits.proofs.Stored.{x-in-range, y-in-range}
-use Rattle.drawing.proofs.Changes.{edit-listed, place-change, place-damage}
+use Rattle.drawing.proofs.Changes.{edit-listed, x-near, y-near, place-damage}
 use Rattle.drawing.proofs.damage.place_damage.Statement.{statement}
 use Rattle.drawing.proofs.damage.place_damage.Tie as tie
 
@@ -14,7 +14,7 @@ item-at-requires : tie.Need-item-at-requires
 item-at-requires c κs = search edit-listed
 
 change-damage-requires : tie.Need-change-damage-requires
-change-damage-requires c κs = (search edit-listed, search place-change)
+change-damage-requires c κs = (search edit-listed, (search (x-near, y-near), search (x-near, y-near)))
 
 returns : tie.Need-returns
 returns c = search place-damage

@@ -1,5 +1,6 @@
 -- The change is the edit: what is read after it is the item with the new style. Assumes nothing.
-use Rattle.drawing.proofs.Changes.{edit-listed, style-eight, style-change, style-damage}
+use borrow.Author.Needs.{needs}
+use Rattle.drawing.proofs.Changes.{edit-listed, style-eight, style-damage}
 use Rattle.drawing.proofs.damage.style_damage.Statement.{statement}
 use Rattle.drawing.proofs.damage.style_damage.Tie as tie
 
@@ -10,7 +11,7 @@ style-of-requires : tie.Need-style-of-requires
 style-of-requires c κs = search style-eight
 
 change-damage-requires : tie.Need-change-damage-requires
-change-damage-requires c κs = (search edit-listed, search style-change)
+change-damage-requires c κs = (search edit-listed, (search needs, search needs))
 
 returns : tie.Need-returns
 returns c = search style-damage

@@ -1,16 +1,35 @@
--- The change is the edit: what is read after it is the item with the new text. Assumes nothing.
-use Rattle.drawing.proofs.Changes.{edit-listed, text-change, text-damage}
+-- The box before is that of the stored text, which is the item's, and the box after that of the new text, which is what is read after the edit.
+-- Assumes nothing.
+use borrow.Author.Needs.{needs}
+use Rattle.drawing.proofs.Changes.{edit-listed, stored-limits, new-limits, text-damage}
 use Rattle.drawing.proofs.damage.text_damage.Statement.{statement}
 use Rattle.drawing.proofs.damage.text_damage.Tie as tie
 
 item-at-requires : tie.Need-item-at-requires
 item-at-requires c κs = search edit-listed
 
-change-damage-requires : tie.Need-change-damage-requires
-change-damage-requires c κs = (search edit-listed, search text-change)
+text-bytes-requires : tie.Need-text-bytes-requires
+text-bytes-requires c κs = search edit-listed
+
+ink-box-of-requires : tie.Need-ink-box-of-requires
+ink-box-of-requires c κs = (search needs, search (stored-limits, new-limits))
+
+ink-box-of-requires-2 : tie.Need-ink-box-of-requires-2
+ink-box-of-requires-2 c κs = (search needs, search (stored-limits, new-limits))
+
+damage-of-requires : tie.Need-damage-of-requires
+damage-of-requires c κs = (search needs, (search needs, search needs))
 
 returns : tie.Need-returns
 returns c = search text-damage
 
 pub text-damage-spec : {M : Type 1} → statement M
-text-damage-spec = tie.close (tie.spec item-at-requires change-damage-requires returns)
+text-damage-spec =
+    tie.close
+    (tie.spec
+    item-at-requires
+    text-bytes-requires
+    ink-box-of-requires
+    ink-box-of-requires-2
+    damage-of-requires
+    returns)

@@ -6,11 +6,11 @@ use Rattle.geometry.proofs.Rectangle.is_empty.Tie as tie
 
 returns : tie.Need-returns
 unfolding isEmpty
-returns c = search (eq-eqb, ne-eqb)
+returns c = search eq-eqb
 
 returns-2 : tie.Need-returns-2
 unfolding isEmpty
-returns-2 c = search (eq-eqb, ne-eqb)
+returns-2 c = search ne-eqb
 
 pub is-empty-spec : {M : Type 1} → statement M
 is-empty-spec = tie.close (tie.spec returns returns-2)

@@ -1,7 +1,7 @@
 -- The bytes that are read are the two that the definition names. Assumes nothing.
 use native.Mathlib.Omega.{arith}
 use borrow.Author.Needs.{needs}
-use Rattle.sheet.specs.Fields.{u16}
+use Rattle.sheet.specs.Fields.{le16At}
 use Rattle.sheet.proofs.fields.u16_at.Statement.{statement}
 use Rattle.sheet.proofs.fields.u16_at.Tie as tie
 
@@ -26,8 +26,11 @@ mul-result c = search needs
 add-result : tie.Need-add-result
 add-result c = search needs
 
+cast-result : tie.Need-cast-result
+cast-result c = search needs
+
 returns : tie.Need-returns
-unfolding u16
+unfolding le16At
 returns c = omega arith
 
 pub u16-at-spec : {M : Type 1} → statement M
@@ -41,4 +44,5 @@ u16-at-spec =
     wide-requires-2
     mul-result
     add-result
+    cast-result
     returns)

@@ -1,7 +1,7 @@
 -- The bytes that are read are the four that the definition names. Assumes nothing.
 use native.Mathlib.Omega.{arith}
 use borrow.Author.Needs.{needs}
-use Rattle.sheet.specs.Fields.{u32}
+use Rattle.sheet.specs.Fields.{le32At}
 use Rattle.sheet.proofs.fields.u32_at.Statement.{statement}
 use Rattle.sheet.proofs.fields.u32_at.Tie as tie
 
@@ -56,8 +56,11 @@ mul-result-3 c = search needs
 add-result-3 : tie.Need-add-result-3
 add-result-3 c = search needs
 
+cast-result : tie.Need-cast-result
+cast-result c = search needs
+
 returns : tie.Need-returns
-unfolding u32
+unfolding le32At
 returns c = omega arith
 
 pub u32-at-spec : {M : Type 1} → statement M
@@ -81,4 +84,5 @@ u32-at-spec =
     wide-requires-4
     mul-result-3
     add-result-3
+    cast-result
     returns)

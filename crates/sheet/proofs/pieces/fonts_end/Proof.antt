@@ -2,14 +2,16 @@
 use Prim.Native.Nat.{_≤_, _-_}
 use mathlib.Core.Path.{_≡_}
 use borrow.Author.Needs.{needs}
-use Rattle.sheet.specs.Check.{fontsEnd}
-use Rattle.sheet.proofs.Loops.{fonts-start, fonts-more, atlas-off, mapping-off, fonts-done}
 use Rattle.sheet.specs.Fields.{fontCount}
+use Rattle.sheet.specs.Pieces.{fontPieces, piecesOf}
+use Rattle.sheet.specs.Check.{reach}
+use Rattle.sheet.proofs.Chains.{pieces-start, pieces-more, pieces-off, pieces-done}
+use Rattle.sheet.proofs.Loops.{atlas-off, mapping-off, font-to}
 use Rattle.sheet.proofs.pieces.fonts_end.Statement.{statement}
 use Rattle.sheet.proofs.pieces.fonts_end.Tie as tie
 
 abbrev Inv-loop : tie.InvT-loop
-Inv-loop sheet from fonts k₀ p₀ k p = (k ≤ fonts) × (fontsEnd sheet (fonts - k) k p ≡ fontsEnd sheet (fontCount sheet) 0 from)
+Inv-loop sheet from fonts k₀ p₀ k p = (k ≤ fonts) × (reach (piecesOf (fontPieces sheet) (fonts - k) k) p ≡ reach (piecesOf (fontPieces sheet) (fontCount sheet) 0) from)
 
 abbrev μ-loop : tie.MeasureT-loop
 μ-loop sheet from fonts k₀ p₀ k p = fonts - k
@@ -18,7 +20,7 @@ font-count-requires : tie.Need-font-count-requires Inv-loop μ-loop
 font-count-requires c κs = search needs
 
 loop-holds : tie.Need-loop-holds Inv-loop μ-loop
-loop-holds c = (search needs, search fonts-start)
+loop-holds c = (search needs, search pieces-start)
 
 font-offset-requires : tie.Need-font-offset-requires Inv-loop μ-loop
 font-offset-requires c κs = search needs
@@ -45,13 +47,13 @@ u16-at-requires : tie.Need-u16-at-requires Inv-loop μ-loop
 u16-at-requires c κs = search needs
 
 returns : tie.Need-returns Inv-loop μ-loop
-returns c = search atlas-off
+returns c = search (pieces-off, atlas-off)
 
 add-if2 : tie.Need-add-if2 Inv-loop μ-loop
 add-if2 c = search needs
 
 returns-2 : tie.Need-returns-2 Inv-loop μ-loop
-returns-2 c = search mapping-off
+returns-2 c = search (pieces-off, mapping-off)
 
 add-p : tie.Need-add-p Inv-loop μ-loop
 add-p c = search needs
@@ -66,10 +68,10 @@ loop-less : tie.Need-loop-less Inv-loop μ-loop
 loop-less c = search needs
 
 loop-again : tie.Need-loop-again Inv-loop μ-loop
-loop-again c = (search needs, search fonts-more)
+loop-again c = (search needs, search (pieces-more, font-to))
 
 returns-3 : tie.Need-returns-3 Inv-loop μ-loop
-returns-3 c = search fonts-done
+returns-3 c = search pieces-done
 
 pub fonts-end-spec : {M : Type 1} → statement M
 fonts-end-spec =

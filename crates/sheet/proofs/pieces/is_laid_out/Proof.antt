@@ -1,6 +1,6 @@
 -- Each way out is one of the three tests of the layout; records that pass the end leave no room for the pieces. Assumes nothing.
 use borrow.Author.Needs.{needs}
-use Rattle.sheet.proofs.Outcomes.{fonts-elsewhere, items-elsewhere, records-out, pieces-off, laid-out-is}
+use Rattle.sheet.proofs.Outcomes.{fonts-elsewhere, items-elsewhere, records-out, pieces-end, laid-out-is}
 use Rattle.sheet.proofs.pieces.is_laid_out.Statement.{statement}
 use Rattle.sheet.proofs.pieces.is_laid_out.Tie as tie
 
@@ -41,7 +41,7 @@ enum-told : tie.Need-enum-told
 enum-told c = search needs
 
 returns-4 : tie.Need-returns-4
-returns-4 c = search pieces-off
+returns-4 c = search pieces-end
 
 returns-5 : tie.Need-returns-5
 returns-5 c = search laid-out-is

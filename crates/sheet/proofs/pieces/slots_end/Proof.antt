@@ -2,14 +2,16 @@
 use Prim.Native.Nat.{_≤_, _-_}
 use mathlib.Core.Path.{_≡_}
 use borrow.Author.Needs.{needs}
-use Rattle.sheet.specs.Check.{slotsEnd}
-use Rattle.sheet.proofs.Loops.{slots-start, slots-more, slot-off, slots-done}
 use Rattle.sheet.specs.Fields.{itemCount}
+use Rattle.sheet.specs.Pieces.{slotPieces, piecesOf}
+use Rattle.sheet.specs.Check.{reach}
+use Rattle.sheet.proofs.Chains.{pieces-start, pieces-more, pieces-off, pieces-done}
+use Rattle.sheet.proofs.Loops.{slot-off, slot-to}
 use Rattle.sheet.proofs.pieces.slots_end.Statement.{statement}
 use Rattle.sheet.proofs.pieces.slots_end.Tie as tie
 
 abbrev Inv-loop : tie.InvT-loop
-Inv-loop sheet from items k₀ p₀ k p = (k ≤ items) × (slotsEnd sheet (items - k) k p ≡ slotsEnd sheet (itemCount sheet) 0 from)
+Inv-loop sheet from items k₀ p₀ k p = (k ≤ items) × (reach (piecesOf (slotPieces sheet) (items - k) k) p ≡ reach (piecesOf (slotPieces sheet) (itemCount sheet) 0) from)
 
 abbrev μ-loop : tie.MeasureT-loop
 μ-loop sheet from items k₀ p₀ k p = items - k
@@ -18,7 +20,7 @@ item-count-requires : tie.Need-item-count-requires Inv-loop μ-loop
 item-count-requires c κs = search needs
 
 loop-holds : tie.Need-loop-holds Inv-loop μ-loop
-loop-holds c = (search needs, search slots-start)
+loop-holds c = (search needs, search pieces-start)
 
 item-offset-requires : tie.Need-item-offset-requires Inv-loop μ-loop
 item-offset-requires c κs = search needs
@@ -36,7 +38,7 @@ u16-at-requires : tie.Need-u16-at-requires Inv-loop μ-loop
 u16-at-requires c κs = search needs
 
 returns : tie.Need-returns Inv-loop μ-loop
-returns c = search slot-off
+returns c = search (pieces-off, slot-off)
 
 add-p : tie.Need-add-p Inv-loop μ-loop
 add-p c = search needs
@@ -48,10 +50,10 @@ loop-less : tie.Need-loop-less Inv-loop μ-loop
 loop-less c = search needs
 
 loop-again : tie.Need-loop-again Inv-loop μ-loop
-loop-again c = (search needs, search slots-more)
+loop-again c = (search needs, search (pieces-more, slot-to))
 
 returns-2 : tie.Need-returns-2 Inv-loop μ-loop
-returns-2 c = search slots-done
+returns-2 c = search pieces-done
 
 pub slots-end-spec : {M : Type 1} → statement M
 slots-end-spec =

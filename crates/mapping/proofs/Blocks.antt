@@ -1,0 +1,252 @@
+-- `skip` and the functions that it calls: a law for each fact that a turn of their loops needs. Assumes nothing.
+use mathlib.Core.Path.{_≡_, refl, sym, _∙_, ap}
+use mathlib.Core.Bool.{Bool, true, false, cond, and-eq-true-iff}
+use mathlib.Core.List.{List}
+use mathlib.Mathlib.Data.Bool.Basic.{dichotomy}
+use mathlib.Core.Logic.{⊎-elim}
+use Prim.Native.Nat.{ℕ, zero, suc, _+_, _-_, _<_, _≤_, min, max}
+use native.Mathlib.Numerals.{add-one}
+use native.Mathlib.Omega.{arith}
+use native.Mathlib.Decide.{decLt}
+use borrow.Author.Tests.{ne-eqb, eqb-true}
+use lib.ListN.{length, getD, List·getD-eq-default}
+use mir.Val.{Fits}
+use mir.Syntax.{w8, w64}
+use lib.Dec.{eqb}
+use Rattle.characters.specs.Utf8.{isContinuation}
+use Rattle.mapping.specs.declared.search.Needle.{Needle}
+use Rattle.mapping.specs.declared.search.Block.{Block}
+use Rattle.mapping.specs.declared.search.Passed.{Passed}
+use Rattle.mapping.specs.Search.{isLead, leads, mayBegin, mayBeginAt, before, OfBlock, OfHit, Passes, Skips, IsNeedle}
+
+-- past the end
+pub byte-past : (s : List ℕ) (at by : ℕ) → length s - at ≤ by → 0 ≡ getD s (at + by) 0
+byte-past s at by h = sym (List·getD-eq-default s 0 (omega arith))
+
+pub begins-read : (s : List ℕ) (p : Needle) (at a b c d : ℕ) (t : Bool) → t ≡ mayBegin p a b c d → a ≡ getD s at 0 → b ≡ getD s (at + p .near) 0
+    → c ≡ getD s (at + p .mid) 0 → d ≡ getD s (at + p .end) 0 → t ≡ mayBeginAt s p at
+begins-read s p at a b c d t e x y z w = e ∙ rw (x, y, z, w)
+
+-- ---- lead bytes
+
+one-le : (t : Bool) → cond {A = ℕ} t 1 0 ≤ 1
+one-le true = omega arith
+one-le false = omega arith
+
+pub leads-le : (s : List ℕ) (at n : ℕ) → leads s at n ≤ n
+unfolding leads
+leads-le s at zero = omega arith
+leads-le s at (suc n) = omega (arith, leads-le s at n, one-le (isLead (getD s (at + n) 0)))
+
+pub leads-append : (s : List ℕ) (at m n : ℕ) → leads s at (m + n) ≡ leads s at m + leads s (at + m) n
+unfolding leads
+leads-append s at m zero = let e : m + 0 ≡ m = omega arith in rw e (omega arith)
+leads-append s at m (suc n) =
+    let e : m + suc n ≡ suc (m + n) = omega arith in
+    let f : at + (m + n) ≡ at + m + n = omega arith in
+    rw (e, f) (omega (arith, leads-append s at m n))
+
+module _ (s : List ℕ) (at : ℕ) where
+  pub leads-start : 0 ≡ leads s at 0
+  unfolding leads
+  leads-start = refl
+
+  pub counted-start : (n : ℕ) → 0 ≡ leads s at (min 0 n)
+  unfolding leads
+  counted-start n = let m : min 0 n ≡ 0 = omega arith in rw m
+
+  -- one byte more
+  pub leads-more : (i n v b : ℕ) (t : Bool) → n ≡ leads s at i → t ≡ isLead b → b ≡ getD s (at + i) 0 → v ≡ cond t 1 0 → n + v ≡ leads s at (i + 1)
+  unfolding leads
+  leads-more i n v b t e f g h = rw (add-one i, e, h, f, g)
+
+  pub leads-fits : (i n v : ℕ) (t : Bool) → i < 128 → n ≡ leads s at i → v ≡ cond t 1 0 → Fits w8 (n + v)
+  leads-fits i n v t l e h = omega (arith, leads-le s at i, one-le t)
+
+  -- one byte more, of those before n
+  pub counted-more : (n i k x y v b passed : ℕ) (t : Bool) → passed ≡ i → k ≡ leads s at (min i n) → t ≡ isLead b → b ≡ getD s (at + i) 0
+      → x ≡ cond t 1 0 → y ≡ n - passed → v ≡ min x y → k + v ≡ leads s at (min (i + 1) n)
+  counted-more n i k x y v b passed t p e f g h w u = elim (decLt i n) [
+    | yes l ↦ (
+        let m : min i n ≡ i = omega arith in
+        let m′ : min (i + 1) n ≡ i + 1 = omega arith in
+        rw m′ (leads-more i k v b t (rw m at e) f g (let o = one-le t in omega arith))
+        )
+    | no l ↦ (
+        let m : min (i + 1) n ≡ min i n = omega arith in
+        rw m (omega arith)
+        )
+  ]
+
+  pub counted-fits : (n i k x y v : ℕ) (t : Bool) → i < 64 → k ≡ leads s at (min i n) → x ≡ cond t 1 0 → v ≡ min x y → Fits w8 (k + v)
+  counted-fits n i k x y v t l e h w = omega (arith, leads-le s at (min i n), one-le t)
+
+  pub counted-all : (n i k : ℕ) → n ≤ 64 → 64 ≤ i → k ≡ leads s at (min i n) → k ≡ leads s at n
+  counted-all n i k h l e = let m : min i n ≡ n = omega arith in rw m at e
+
+  -- ---- 128 bytes
+
+  pub bounded-more : (i most x m b : ℕ) → ((j : ℕ) → j < i → before (getD s (at + j) 0) ≤ most) → x ≡ before b → b ≡ getD s (at + i) 0 → m ≡ max most x
+      → (j : ℕ) → j < i + 1 → before (getD s (at + j) 0) ≤ m
+  bounded-more i most x m b h e f g j l = elim (decLt j i) [
+    | yes k ↦ omega (arith, h j k)
+    | no k ↦ (
+        let q : j ≡ i = omega arith in
+        let y : x ≡ before (getD s (at + j) 0) = rw (q, ← f) e in
+        omega arith
+        )
+  ]
+
+  pub block-whole : (i most n : ℕ) → 128 ≤ i → i ≤ 128 → n ≡ leads s at i → ((j : ℕ) → j < i → before (getD s (at + j) 0) ≤ most)
+      → OfBlock s at (record { most = most; leads = n })
+  block-whole i most n l h e b =
+      let q : i ≡ 128 = omega arith in
+      record { bounded = λ j k. b j (omega arith); counted = rw q at e }
+
+  -- ---- 64 bytes
+
+  module _ (p : Needle) where
+    pub hit-more : (i found left v f a b c d : ℕ) (t : Bool) → ((j : ℕ) → j < i → j + found < 64 → mayBeginAt s p (at + j) ≡ false) → left + i ≡ 64
+        → t ≡ mayBegin p a b c d → a ≡ getD s (at + i) 0 → b ≡ getD s (at + i + p .near) 0 → c ≡ getD s (at + i + p .mid) 0 → d ≡ getD s (at + i + p .end) 0
+        → v ≡ cond t left 0 → f ≡ max found v → (j : ℕ) → j < i + 1 → j + f < 64 → mayBeginAt s p (at + j) ≡ false
+    hit-more i found left v f a b c d t h e o x y z w u g j l m = elim (decLt j i) [
+      | yes k ↦ h j k (omega arith)
+      | no k ↦ (
+          let q : j ≡ i = omega arith in
+          let r : t ≡ mayBeginAt s p (at + j) = rw q (begins-read s p (at + i) a b c d t o x y z w) in
+          ⊎-elim (λ n. sym r ∙ n) (λ n. absurd (let y : v ≡ left = u ∙ rw n in omega arith)) (dichotomy t)
+          )
+    ]
+
+    pub hit-whole : (i f : ℕ) → 64 ≤ i → f ≤ 64 → ((j : ℕ) → j < i → j + f < 64 → mayBeginAt s p (at + j) ≡ false) → OfHit s p at f
+    hit-whole i f l h b = record { most = h; clear = λ j k. b j (omega arith) k }
+
+pub hit-fits : (found left v f i : ℕ) (t : Bool) → found ≤ 64 → left + i ≡ 64 → v ≡ cond t left 0 → f ≡ max found v → f ≤ 64
+hit-fits found left v f i true h e w g = omega arith
+hit-fits found left v f i false h e w g = omega arith
+
+-- ---- bytes that are passed over
+
+begins-not : (p : Needle) (a b c d : ℕ) → (a ≡ 0 → ⊥) → (a ≡ p .lead → ⊥) → mayBegin p a b c d ≡ false
+unfolding mayBegin
+begins-not p a b c d z n = rw (ne-eqb a 0 z, ne-eqb a (p .lead) n)
+
+zero-leads : isLead 0 ≡ true
+unfolding isLead isContinuation
+zero-leads = refl
+
+-- what begins begins with a lead byte
+begins-lead : (p : Needle) (a b c d : ℕ) → isLead (p .lead) ≡ true → mayBegin p a b c d ≡ true → isLead a ≡ true
+unfolding mayBegin
+begins-lead p a b c d i y = ⊎-elim
+    (λ n.
+    let z = rw n at y in
+    ap isLead (eqb-true a (p .lead) (and-eq-true-iff (eqb a (p .lead)) _ .0 z .0)) ∙ i)
+    (λ n. ap isLead (eqb-true a 0 n) ∙ zero-leads)
+    (dichotomy (eqb a 0))
+
+before-less : (p : Needle) (a b c d : ℕ) → before a < before (p .lead) → mayBegin p a b c d ≡ false
+unfolding before
+before-less p a b c d l = begins-not p a b c d (λ z. omega arith) (λ z. omega arith)
+
+module _ (s : List ℕ) (p : Needle) (from : ℕ) where
+  pub passes-none : from ≤ length s → Passes s p from (record { at = from; count = 0 })
+  unfolding leads
+  passes-none h =
+      let e : from - from ≡ 0 = omega arith in
+      record { forward = omega arith; within = h; counted = rw e; clear = λ q a b. absurd (omega arith) }
+
+  module _ (at k : ℕ) (g : Passes s p from (record { at = at; count = k })) where
+    passes-fits : (n v : ℕ) → v ≤ n → at + n ≤ length s → Fits w64 (length s) → Fits w64 (k + v)
+    passes-fits n v l h f = omega (arith, leads-le s from (at - from))
+
+    passes-more : (n v : ℕ) → at + n ≤ length s → v ≡ leads s at n → ((j : ℕ) → j < n → mayBeginAt s p (at + j) ≡ false)
+        → Passes s p from (record { at = at + n; count = k + v })
+    passes-more n v h e c =
+        let split : at + n - from ≡ (at - from) + n = omega arith in
+        let i : from + (at - from) ≡ at = omega arith in
+        record {
+          forward = omega arith;
+          within = h;
+          counted = rw (split, leads-append s from (at - from) n, i) (omega arith);
+          clear = λ q a b. elim (decLt q at) [
+            | yes l ↦ g .clear q a l
+            | no l ↦ let j : at + (q - at) ≡ q = omega arith in rw j at (c (q - at) (omega arith))
+          ];
+        }
+
+    pub passes-block : (b : Block) (limit v : ℕ) → OfBlock s at b → limit ≡ before (p .lead) → b .most < limit → 128 ≤ length s - at → v ≡ b .leads
+        → Passes s p from (record { at = at + 128; count = k + v })
+    passes-block b limit v o e l h w =
+        passes-more 128 v (omega arith) (w ∙ o .counted) (λ j m. before-less p _ _ _ _ (omega (arith, o .bounded j m)))
+
+    pub block-fits : (b : Block) (v : ℕ) → OfBlock s at b → 128 ≤ length s - at → v ≡ b .leads → Fits w64 (length s) → Fits w64 (k + v)
+    block-fits b v o h w f = passes-fits 128 v (omega (arith, leads-le s at 128, o .counted)) (omega arith) f
+
+    pub through-fits : (u v : ℕ) → u ≡ leads s at 64 → v ≡ u → 67 ≤ length s - at → Fits w64 (length s) → Fits w64 (k + v)
+    through-fits u v e w h f = passes-fits 64 v (omega (arith, leads-le s at 64)) (omega arith) f
+
+    pub passes-through : (left u v : ℕ) → OfHit s p at left → left ≤ 0 → 67 ≤ length s - at → u ≡ leads s at 64 → v ≡ u
+        → Passes s p from (record { at = at + 64; count = k + v })
+    passes-through left u v o z h w x = passes-more 64 v (omega arith) (x ∙ w) (λ j l. o .clear j (omega arith))
+
+    pub upto-fits : (left n u v : ℕ) → OfHit s p at left → n ≡ 64 - left → u ≡ leads s at n → v ≡ u → 67 ≤ length s - at → Fits w64 (length s) → Fits w64 (k + v)
+    upto-fits left n u v o l e w h f = passes-fits n v (omega (arith, leads-le s at n)) (omega arith) f
+
+    pub passes-hit : (left n m v u : ℕ) → OfHit s p at left → n ≡ 64 - left → m ≡ n → 67 ≤ length s - at → u ≡ leads s at n → v ≡ u
+        → Passes s p from (record { at = at + m; count = k + v })
+    passes-hit left n m v u o e f h w x =
+        rw f (passes-more n v (omega arith) (x ∙ w) (λ j l. o .clear j (omega arith)))
+
+    -- byte by byte
+
+    pub byte-fits : (v w : ℕ) (t : Bool) → at < length s → w ≡ cond t 1 0 → v ≡ w → Fits w64 (length s) → Fits w64 (k + v)
+    byte-fits v w t h e x f = passes-fits 1 v (let o = one-le t in omega arith) (omega arith) f
+
+    pub passes-byte : (v w : ℕ) (t u : Bool) → at < length s → u ≡ mayBeginAt s p at → u ≡ false → t ≡ isLead (getD s at 0) → w ≡ cond t 1 0 → v ≡ w
+        → Passes s p from (record { at = at + 1; count = k + v })
+    unfolding leads
+    passes-byte v w t u h o n f e x =
+        let z : at + 0 ≡ at = omega arith in
+        passes-more 1 v (omega arith) (rw z (x ∙ e ∙ rw f (omega arith))) (λ j l. let i : j ≡ 0 = omega arith in rw (i, z, ← o) n)
+
+    pub skips-begin : (u : Bool) → IsNeedle p → u ≡ mayBeginAt s p at → u ≡ true → Skips s p from (record { at = at; count = k })
+    skips-begin u i o y = record { passes = g; boundary = λ h. begins-lead p _ _ _ _ (i .leads) (sym o ∙ y) }
+
+    pub skips-past : length s ≤ at → Skips s p from (record { at = at; count = k })
+    skips-past h = record { passes = g; boundary = λ l. absurd (omega arith) }
+
+module _ (s : List ℕ) (p : Needle) (from : ℕ) (g r : Passed) (a : Passes s p from g) (b : Skips s p (g .at) r) where
+  pub join-fits : Fits w64 (length s) → Fits w64 (g .count + r .count)
+  join-fits f =
+      let c = b .passes in
+      omega (arith, leads-le s from (g .at - from), leads-le s (g .at) (r .at - g .at))
+
+  -- what was passed over one after the other
+  pub skips-join : (k : ℕ) → k ≡ g .count + r .count → Skips s p from (record { at = r .at; count = k })
+  skips-join k e =
+      let c = b .passes in
+      let split : r .at - from ≡ (g .at - from) + (r .at - g .at) = omega arith in
+      let j : from + (g .at - from) ≡ g .at = omega arith in
+      record {
+        passes = record {
+          forward = omega arith;
+          within = c .within;
+          counted = rw (split, leads-append s from (g .at - from) (r .at - g .at), j) (omega arith);
+          clear = λ q x y. elim (decLt q (g .at)) [ yes l ↦ a .clear q x l | no l ↦ c .clear q (omega arith) y ];
+        };
+        boundary = b .boundary;
+      }
+
+-- ---- the lead byte of a sequence
+
+leads-none : (s : List ℕ) (at n : ℕ) → ((j : ℕ) → j < n → isLead (getD s (at + j) 0) ≡ false) → leads s at n ≡ 0
+unfolding leads
+leads-none s at zero c = refl
+leads-none s at (suc n) c = rw (leads-none s at n (λ j l. c j (omega arith)), c n (omega arith))
+
+pub leads-one : (s : List ℕ) (at n : ℕ) → isLead (getD s at 0) ≡ true → ((j : ℕ) → j < n → isLead (getD s (at + 1 + j) 0) ≡ false) → leads s at (1 + n) ≡ 1
+unfolding leads
+leads-one s at n y c =
+    let e : at + 0 ≡ at = omega arith in
+    rw (leads-append s at 1 n, leads-none s (at + 1) n c, e, y)

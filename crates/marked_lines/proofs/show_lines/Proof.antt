@@ -1,0 +1,59 @@
+-- A line starts within the text, and each ends before the next starts. Assumes nothing.
+use Prim.Native.Nat.{_≤_, _-_}
+use lib.ListN.{length}
+use borrow.Author.Needs.{needs}
+use Rattle.marked_lines.proofs.show_lines.Statement.{statement}
+use Rattle.marked_lines.proofs.show_lines.Tie as tie
+
+abbrev Inv-loop : tie.InvT-loop
+Inv-loop text size from₀ from = (from ≤ size) × (size ≤ length text)
+
+abbrev μ-loop : tie.MeasureT-loop
+μ-loop text size from₀ from = size - from
+
+loop-holds : tie.Need-loop-holds Inv-loop μ-loop
+loop-holds c = search needs
+
+find-requires : tie.Need-find-requires Inv-loop μ-loop
+find-requires c κs = search needs
+
+sub-show-line : tie.Need-sub-show-line Inv-loop μ-loop
+sub-show-line c = search needs
+
+part-show-line-start : tie.Need-part-show-line-start Inv-loop μ-loop
+part-show-line-start c = search needs
+
+part-show-line-end : tie.Need-part-show-line-end Inv-loop μ-loop
+part-show-line-end c = search needs
+
+show-line-requires : tie.Need-show-line-requires Inv-loop μ-loop
+show-line-requires c κs = search needs
+
+returns : tie.Need-returns Inv-loop μ-loop
+returns c = search needs
+
+add-from : tie.Need-add-from Inv-loop μ-loop
+add-from c = search needs
+
+loop-less : tie.Need-loop-less Inv-loop μ-loop
+loop-less c = search needs
+
+loop-again : tie.Need-loop-again Inv-loop μ-loop
+loop-again c = search needs
+
+pub show-lines-spec : {M : Type 1} → statement M
+show-lines-spec =
+    tie.close
+    (tie.spec
+    Inv-loop
+    μ-loop
+    loop-holds
+    find-requires
+    sub-show-line
+    part-show-line-start
+    part-show-line-end
+    show-line-requires
+    returns
+    add-from
+    loop-less
+    loop-again)

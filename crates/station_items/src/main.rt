@@ -1,0 +1,60 @@
+// Reads a sheet from standard input; writes a line for each item: its number, the left, top, width and height of its measured box, and the
+// x and y of its next position. For a sheet that is refused it writes `refused`, its number and a feed.
+use libc::STDIN_FILENO;
+use libc::STDOUT_FILENO;
+use programs::pixel_count;
+use programs::write_number;
+use programs::write_refused;
+use programs::write_signed;
+use programs::write_word;
+use sheet::fields::item_count;
+use station::Box;
+use station::Position;
+use station::station_bounding_box;
+use station::station_check;
+use station::station_draw_item;
+
+fn write_box(area: Box) {
+    write_signed(area.left);
+    write_signed(area.top);
+    write_number(area.width as u64);
+    write_number(area.height as u64);
+}
+
+fn write_position(next: Position) {
+    write_signed(next.x);
+    write_signed(next.y);
+}
+
+// Writes an item's line.
+fn write_item(sheet: &[u8], frame: &mut [u8], item: u32) {
+    io::print_decimal(STDOUT_FILENO, item as u64);
+    write_box(station_bounding_box(sheet, item));
+    write_position(station_draw_item(sheet, frame, item));
+    write_word(b"\n");
+}
+
+// Writes a line for each item of a sheet, or its refusal.
+fn write_items(sheet: &[u8], frame: &mut [u8]) {
+    let code = station_check(sheet);
+    if code != 0 {
+        write_refused(code);
+        return;
+    }
+    let count = item_count(sheet);
+    let mut item = 0;
+    while item < count {
+        write_item(sheet, frame, item);
+        item += 1;
+    }
+}
+
+// A file of more than 65,536 bytes is read past that limit, and so refused.
+fn main() {
+    let mut file = [0u8; 65537];
+    let n = io::read_full(STDIN_FILENO, &mut file);
+    let pixels = pixel_count(&file[..n]);
+    let mut frame = [0u8; 65536];
+    let canvas = &mut frame[0..pixels];
+    write_items(&file[..n], canvas);
+}
