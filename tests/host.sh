@@ -71,11 +71,29 @@ replies() {
   "$1" "-std=$2" "$4" "${warnings[@]}" -x "$3" tests/host/layout.c -x none "$archive" -o "$out/layout" && "$out/layout"
 }
 
-# logger COMPILER OPTIMISATION: what it prints and the page that it writes are the stored ones.
+# logger COMPILER OPTIMISATION: what it prints and the page that it writes are the stored ones; another sheet is turned down.
 logger() {
   "$1" -std=c99 "$2" "${warnings[@]}" examples/logger/main.c "$archive" -o "$out/logger" &&
     rm -f "$out/page.pgm" && "$out/logger" samples/hydrograph.sheet "$out/page.pgm" >"$out/stdout" &&
-    diff examples/logger/stdout "$out/stdout" && cmp examples/logger/page.pgm "$out/page.pgm"
+    diff examples/logger/stdout "$out/stdout" && cmp examples/logger/page.pgm "$out/page.pgm" &&
+    ! "$out/logger" samples/greek.sheet "$out/page.pgm" && cmp examples/logger/page.pgm "$out/page.pgm"
+}
+
+# stack COMPILER: how deep each call of the header goes, over the sheets of the tests.
+stack() {
+  "$1" -std=gnu99 -O2 "${warnings[@]}" tests/host/stack.c "$archive" -Wl,-z,now -o "$out/stack" &&
+    python3 tests/explained.py | "$out/stack" | tee "$out/depths" &&
+    diff <(sed -n 's/^\(station_[a-z_]*\) .*/\1/p' "$out/depths" | sort) <(sed -n 's/^[a-z0-9_]* \(station_[a-z_]*\)(.*/\1/p' include/station.h | sort)
+}
+
+# no_variables: the archive has no section that is written, and needs nothing of a host but memset.
+no_variables() {
+  nm "$archive" && ! nm "$archive" | grep -E ' [BbCDdGgSs] ' && [ "$(nm -u "$archive" | awk '$1 == "U" { print $2 }')" = memset ]
+}
+
+# threads COMPILER: many threads on one sheet.
+threads() {
+  "$1" -std=c99 -O2 "${warnings[@]}" -pthread tests/host/threads.c "$archive" -o "$out/threads" && "$out/threads" samples/hydrograph.sheet
 }
 
 mkdir -p "$out"
@@ -99,11 +117,20 @@ for name in gcc clang; do
   done
 done
 
-rm -f "$out/check"
 for name in gcc clang; do
-  [ -x "$out/check" ] || "$name" -std=c99 -O2 "${warnings[@]}" tests/host/check.c "$archive" -o "$out/check" 2>"$out/log" || true
+  try "stack of each call under 4 KiB, measured, $name" stack "$name"
 done
-python3 tests/tools.py "$out/check" >"$out/tools" 2>"$out/tools.log"
+try "stack of each call under 4 KiB, added up" python3 tests/host/stack.py "$archive"
+try "no variables, and memset alone" no_variables
+try "threads on one sheet, gcc" threads gcc
+
+for program in check items; do
+  rm -f "$out/$program"
+  for name in gcc clang; do
+    [ -x "$out/$program" ] || "$name" -std=c99 -O2 "${warnings[@]}" "tests/host/$program.c" "$archive" -o "$out/$program" 2>"$out/log" || true
+  done
+done
+python3 tests/tools.py "$out/check" "$out/items" >"$out/tools" 2>"$out/tools.log"
 status=$?
 while IFS= read -r line; do
   count "$line"

@@ -1,27 +1,33 @@
 /*
- * A logger's main: checks a sheet, draws its page, stores a new reading, tells which rectangle would be radioed, and writes the page.
+ * A logger's main: checks a sheet, draws its page, stores new readings, tells which rectangle would be radioed, and writes the page.
  *
  *     logger SHEET PAGE
  *
- * Nothing is allocated: the buffers have the largest sizes that a sheet can ask for. Files stand in for the logger's memory and radio.
+ * The sheet is samples/hydrograph.sheet, whose numbers stand in hydrograph.h. Nothing is allocated: the frame has that sheet's size, the other
+ * buffers the largest that a sheet can ask for. Files stand in for the logger's memory and radio.
  */
+#include "hydrograph.h"
 #include "station.h"
 
 #include <stdio.h>
 #include <string.h>
 
-/* The item of samples/hydrograph.sheet that holds the stage; 'tools/sheet new' prints the numbers of named items. */
-enum { ITEM_STAGE = 4 };
+#if STATION_VERSION_MAJOR != 1
+#error "this logger was written for version 1 of the library"
+#endif
+
+enum { PIXELS = HYDROGRAPH_WIDTH * HYDROGRAPH_HEIGHT };
 
 static uint8_t sheet[STATION_MOST_SHEET + 1];
-static uint8_t frame[STATION_MOST_FRAME];
-static uint8_t ashore[STATION_MOST_FRAME];
+static size_t length;
+static uint8_t frame[PIXELS];
+static uint8_t ashore[PIXELS];
 static uint8_t page[STATION_MOST_PAGE];
 
 /* A number of two bytes, low byte first. */
-static size_t stored_number(const uint8_t *bytes)
+static size_t stored_number(size_t at)
 {
-    return (size_t)bytes[0] | (size_t)bytes[1] << 8;
+    return (size_t)sheet[at] | (size_t)sheet[at + 1] << 8;
 }
 
 static int say_refused(const char *what, uint32_t code)
@@ -31,57 +37,80 @@ static int say_refused(const char *what, uint32_t code)
 }
 
 /* Reads a file into the sheet's buffer; one byte past the largest sheet is enough for the check to refuse it. */
-static int read_sheet(const char *path, size_t *length)
+static int read_sheet(const char *path)
 {
     FILE *file = fopen(path, "rb");
     if (file == NULL) {
         return 0;
     }
-    *length = fread(sheet, 1, sizeof sheet, file);
+    length = fread(sheet, 1, sizeof sheet, file);
     int good = !ferror(file);
     return fclose(file) == 0 && good;
 }
 
-static int write_file(const char *path, const uint8_t *bytes, size_t length)
+static int write_file(const char *path, const uint8_t *bytes, size_t count)
 {
     FILE *file = fopen(path, "wb");
     if (file == NULL) {
         return 0;
     }
-    int good = fwrite(bytes, 1, length, file) == length;
+    int good = fwrite(bytes, 1, count, file) == count;
     return fclose(file) == 0 && good;
 }
 
+/* Whether an accepted sheet is the one that hydrograph.h has the numbers of. */
+static int is_known_sheet(void)
+{
+    return length == HYDROGRAPH_LENGTH && stored_number(STATION_AT_WIDTH) == HYDROGRAPH_WIDTH &&
+           stored_number(STATION_AT_HEIGHT) == HYDROGRAPH_HEIGHT && stored_number(STATION_AT_ITEMS) == HYDROGRAPH_ITEMS;
+}
+
 /* Stands in for the radio: the page ashore gets the greys of the rectangle, and no others. */
-static void send_rectangle(station_box area, size_t width)
+static void send_rectangle(station_box area)
 {
     for (uint32_t row = 0; row < area.height; row++) {
-        size_t at = ((size_t)area.top + row) * width + (size_t)area.left;
+        size_t at = ((size_t)area.top + row) * HYDROGRAPH_WIDTH + (size_t)area.left;
         memcpy(ashore + at, frame + at, area.width);
     }
 }
 
-/* Gives the stage's item a new text, and says what the call replied. */
-static station_box set_stage(size_t length, size_t pixels, const char *text)
+/* The number of a text's characters; for an ill-formed text, of those before the fault. */
+static unsigned count_characters(const char *text)
 {
-    station_box area = station_set_text(sheet, length, frame, pixels, ITEM_STAGE, (const uint8_t *)text, strlen(text));
-    if (area.code == STATION_OK) {
-        printf("new reading '%s': left %d, top %d, width %u, height %u\n", text, (int)area.left, (int)area.top, (unsigned)area.width,
-               (unsigned)area.height);
-    } else {
-        printf("new reading '%s': refused %u\n", text, (unsigned)area.code);
+    const uint8_t *line = (const uint8_t *)text;
+    size_t line_length = strlen(text);
+    unsigned count = 0;
+    station_step step = station_walk(line, line_length, 0);
+    while (step.code == STATION_OK && step.ended == 0) {
+        count++;
+        step = station_walk(line, line_length, step.next);
     }
-    return area;
+    return count;
+}
+
+/* Gives the stage's item a new text, and says what the call replied; a rectangle is radioed. Gives the reply's code. */
+static uint32_t set_stage(const char *text)
+{
+    station_box area = station_set_text(sheet, length, frame, PIXELS, HYDROGRAPH_ITEM_STAGE, (const uint8_t *)text, strlen(text));
+    if (area.code != STATION_OK) {
+        printf("new reading of %u bytes in a slot of %u: refused %u\n", (unsigned)strlen(text), (unsigned)HYDROGRAPH_SLOT_STAGE,
+               (unsigned)area.code);
+        return area.code;
+    }
+    printf("new reading '%s', %u characters: left %d, top %d, width %u, height %u\n", text, count_characters(text), (int)area.left,
+           (int)area.top, (unsigned)area.width, (unsigned)area.height);
+    send_rectangle(area);
+    printf("radio: %u greys of %u\n", (unsigned)(area.width * area.height), (unsigned)PIXELS);
+    return STATION_OK;
 }
 
 int main(int count, char **arguments)
 {
-    size_t length = 0;
     if (count != 3) {
         fprintf(stderr, "usage: logger SHEET PAGE\n");
         return 2;
     }
-    if (!read_sheet(arguments[1], &length)) {
+    if (!read_sheet(arguments[1])) {
         fprintf(stderr, "logger: %s cannot be read\n", arguments[1]);
         return 2;
     }
@@ -90,28 +119,37 @@ int main(int count, char **arguments)
     if (code != STATION_OK) {
         return say_refused("sheet", code);
     }
-    size_t width = stored_number(sheet + 2), height = stored_number(sheet + 4), pixels = width * height;
+    if (!is_known_sheet()) {
+        printf("sheet: accepted, but not the one of hydrograph.h\n");
+        return 1;
+    }
     printf("sheet: %u bytes, accepted\n", (unsigned)length);
 
-    code = station_draw(sheet, length, frame, pixels);
+    code = station_draw(sheet, length, frame, PIXELS);
     if (code != STATION_OK) {
         return say_refused("drawing", code);
     }
-    printf("page: %u by %u, drawn\n", (unsigned)width, (unsigned)height);
-    memcpy(ashore, frame, pixels);
+    printf("page: %u by %u, drawn\n", (unsigned)HYDROGRAPH_WIDTH, (unsigned)HYDROGRAPH_HEIGHT);
+    memcpy(ashore, frame, sizeof frame);
 
-    station_box area = set_stage(length, pixels, "2.347 m");
-    if (area.code != STATION_OK) {
+    code = set_stage("2.347 m");
+    if (code != STATION_OK) {
         return 1;
     }
-    printf("radio: %u greys of %u\n", (unsigned)(area.width * area.height), (unsigned)pixels);
-    send_rectangle(area, width);
-    printf("page ashore: %s\n", memcmp(ashore, frame, pixels) == 0 ? "the same" : "another");
+    printf("page ashore: %s\n", memcmp(ashore, frame, sizeof frame) == 0 ? "the same" : "another");
 
-    /* Longer than the item's slot: the call is refused, and sheet and frame stay as they are. */
-    set_stage(length, pixels, "sensor fault");
+    /* Two texts that are refused: one is longer than the slot, one is cut in a character. Sheet and frame stay as they are. */
+    code = set_stage("sensor fault");
+    if (code != STATION_REFUSED_NEW_TEXT_TOO_LONG) {
+        return say_refused("a long reading", code);
+    }
+    code = set_stage("2.3 \xE2\x86");
+    if (code != STATION_REFUSED_NEW_TEXT_ILL_FORMED) {
+        return say_refused("an ill-formed reading", code);
+    }
+    printf("the reading that was cut: %u characters before the fault\n", count_characters("2.3 \xE2\x86"));
 
-    station_number written = station_write_page(sheet, length, frame, pixels, page, sizeof page);
+    station_number written = station_write_page(sheet, length, frame, PIXELS, page, sizeof page);
     if (written.code != STATION_OK) {
         return say_refused("page", written.code);
     }

@@ -13,8 +13,9 @@ enum {
     HEIGHT = 30,
     PIXELS = WIDTH * HEIGHT,
     PAGE = 13 + PIXELS, /* P5, 40 30 and 255, each with its feed, then the greys */
-    FONT_RECORD = 24,
-    ITEM_RECORD = 52,
+    FONT_RECORD = STATION_FONT_RECORD(0),
+    ITEM_RECORD = STATION_ITEM_RECORD(1, 0),
+    ITEM_RECORD_1 = STATION_ITEM_RECORD(1, 1),
     ATLAS = 108,
     MAPPING = 110,
     SLOT_0 = 119,
@@ -77,18 +78,18 @@ static void put(int at, int size, uint32_t value)
 static void put_item(int record, int x, int y, int slot, int slot_size, const char *text)
 {
     static const uint8_t style[STATION_STYLE_LENGTH] = {1, 9, 0, 0, 2, 7, 0, 0};
-    put(record, 2, (uint32_t)x);
-    put(record + 2, 2, (uint32_t)y);
-    put(record + 4, 4, (uint32_t)slot);
-    put(record + 8, 2, (uint32_t)slot_size);
-    put(record + 10, 2, (uint32_t)strlen(text));
-    memcpy(sheet + record + 13, style, sizeof style);
-    put(record + 22, 1, 3); /* baseline Alphabetic */
+    put(record + STATION_ITEM_AT_X, 2, (uint32_t)x);
+    put(record + STATION_ITEM_AT_Y, 2, (uint32_t)y);
+    put(record + STATION_ITEM_AT_SLOT, 4, (uint32_t)slot);
+    put(record + STATION_ITEM_AT_SLOT_SIZE, 2, (uint32_t)slot_size);
+    put(record + STATION_ITEM_AT_TEXT_LENGTH, 2, (uint32_t)strlen(text));
+    memcpy(sheet + record + STATION_ITEM_AT_STYLE, style, sizeof style);
+    put(record + STATION_ITEM_AT_BASELINE, 1, 3); /* alphabetic */
     memcpy(sheet + slot, text, strlen(text));
 }
 
 /*
- * Document 01's sample font with a mapping of A to H and the replacement index 513, AB in item 0 at (-7, 11), and A in item 1. Both are
+ * The sample font of docs/SHEET.md with a mapping of A to H and the replacement index 513, AB in item 0 at (-7, 11), and A in item 1. Both are
  * underlined, so that their measured boxes are 4 high.
  */
 static void make_sheet(void)
@@ -96,14 +97,14 @@ static void make_sheet(void)
     static const uint8_t cell[] = {2, 2, 1, 1, 0, 1, 3, 1};
     memset(sheet, 0, sizeof sheet);
     put(0, 2, 1);
-    put(2, 2, WIDTH);
-    put(4, 2, HEIGHT);
-    put(6, 1, 200);
-    put(7, 1, 1);
-    put(8, 2, 2);
+    put(STATION_AT_WIDTH, 2, WIDTH);
+    put(STATION_AT_HEIGHT, 2, HEIGHT);
+    put(STATION_AT_PAPER, 1, 200);
+    put(STATION_AT_FONTS, 1, 1);
+    put(STATION_AT_ITEMS, 2, 2);
     put(12, 4, FONT_RECORD);
     put(16, 4, ITEM_RECORD);
-    put(20, 4, LENGTH);
+    put(STATION_AT_LENGTH, 4, LENGTH);
     put(FONT_RECORD, 4, ATLAS);
     put(FONT_RECORD + 4, 4, MAPPING - ATLAS);
     put(FONT_RECORD + 8, 4, MAPPING);
@@ -114,7 +115,7 @@ static void make_sheet(void)
     put(ATLAS, 2, 0x6090);
     memcpy(sheet + MAPPING, "\0ABCDEFGH", SLOT_0 - MAPPING);
     put_item(ITEM_RECORD, -7, 11, SLOT_0, SLOT_1 - SLOT_0, "AB");
-    put_item(ITEM_RECORD + 28, 30, 20, SLOT_1, LENGTH - SLOT_1, "A");
+    put_item(ITEM_RECORD_1, 30, 20, SLOT_1, LENGTH - SLOT_1, "A");
 }
 
 static int16_t stored(int at)
@@ -141,7 +142,31 @@ static void try_walker(void)
     step_is("station_walk at 1", station_walk(line, 4, 1), 0, 0, 0xE9, 3);
     step_is("station_walk at the end", station_walk(line, 3, 3), 0, 1, 0, 3);
     step_is("station_walk far past the end", station_walk(line, 4, far), 0, 1, 0, far);
-    step_is("station_walk at an ill-formed byte", station_walk(line, 4, 3), STATION_TEXT_ILL_FORMED, 0, 0, 0);
+    step_is("station_walk at an ill-formed byte", station_walk(line, 4, 3), STATION_REFUSED_TEXT_ILL_FORMED, 0, 0, 0);
+}
+
+/* The header's loop: how many characters it meets, and the reply at which it ends. It also ends on an ill-formed line. */
+static void loop_is(const char *name, const char *text, size_t length, long long characters, uint32_t code, uint32_t ended)
+{
+    const uint8_t *line = (const uint8_t *)text;
+    long long met = 0;
+    station_step step = station_walk(line, length, 0);
+    while (step.code == STATION_OK && step.ended == 0 && met < 1000) {
+        met++;
+        step = station_walk(line, length, step.next);
+    }
+    same(name, "characters", met, characters);
+    same(name, "code", step.code, code);
+    same(name, "ended", step.ended, ended);
+}
+
+static void try_walker_loop(void)
+{
+    loop_is("walk of a line", "2.3\xC2\xB0", 5, 4, STATION_OK, 1);
+    loop_is("walk of no line", "", 0, 0, STATION_OK, 1);
+    loop_is("walk of 00, 0A and 0D", "\0\n\r", 3, 3, STATION_OK, 1);
+    loop_is("walk of a line that is cut", "ab\xE2\x82", 4, 2, STATION_REFUSED_TEXT_ILL_FORMED, 0);
+    loop_is("walk of an ill-formed line", "\xFFz", 2, 0, STATION_REFUSED_TEXT_ILL_FORMED, 0);
 }
 
 static void try_drawing(void)
@@ -180,8 +205,8 @@ static void try_edits(int with_frame)
     static const uint8_t style[STATION_STYLE_LENGTH] = {0, 1, 0, 2, 2, 3, 0, 4};
     static const uint8_t text[] = {'A', 'B', 'B', 'A'};
     make_sheet();
-    put(ITEM_RECORD, 2, 20);
-    put(ITEM_RECORD + 2, 2, 3);
+    put(ITEM_RECORD + STATION_ITEM_AT_X, 2, 20);
+    put(ITEM_RECORD + STATION_ITEM_AT_Y, 2, 3);
     same("station_draw", "code", station_draw(sheet, LENGTH, frame, PIXELS), 0);
     if (with_frame) {
         box_is("station_set_place", station_set_place(sheet, LENGTH, frame, PIXELS, 0, 9, 17), 0, 9, 2, 16, 18);
@@ -190,15 +215,15 @@ static void try_edits(int with_frame)
     } else {
         box_is("station_set_place_on_sheet", station_set_place_on_sheet(sheet, LENGTH, 0, 9, 17), 0, 9, 2, 16, 18);
     }
-    same("new place", "x", stored(ITEM_RECORD), 9);
-    same("new place", "y", stored(ITEM_RECORD + 2), 17);
+    same("new place", "x", stored(ITEM_RECORD + STATION_ITEM_AT_X), 9);
+    same("new place", "y", stored(ITEM_RECORD + STATION_ITEM_AT_Y), 17);
     if (with_frame) {
         box_is("station_set_text", station_set_text(sheet, LENGTH, frame, PIXELS, 0, text, sizeof text), 0, 9, 16, 11, 4);
         same("station_set_text", "pixel (18, 16)", frame[16 * WIDTH + 18], 9);
     } else {
         box_is("station_set_text_on_sheet", station_set_text_on_sheet(sheet, LENGTH, 0, text, sizeof text), 0, 9, 16, 11, 4);
     }
-    same("new text", "length", stored(ITEM_RECORD + 10), sizeof text);
+    same("new text", "length", stored(ITEM_RECORD + STATION_ITEM_AT_TEXT_LENGTH), sizeof text);
     same("new text", "bytes", memcmp(sheet + SLOT_0, "ABBA\0", SLOT_1 - SLOT_0), 0);
     if (with_frame) {
         box_is("station_set_style", station_set_style(sheet, LENGTH, frame, PIXELS, 0, style, sizeof style), 0, 9, 16, 12, 4);
@@ -206,7 +231,7 @@ static void try_edits(int with_frame)
     } else {
         box_is("station_set_style_on_sheet", station_set_style_on_sheet(sheet, LENGTH, 0, style, sizeof style), 0, 9, 16, 12, 4);
     }
-    same("new style", "bytes", memcmp(sheet + ITEM_RECORD + 13, style, sizeof style), 0);
+    same("new style", "bytes", memcmp(sheet + ITEM_RECORD + STATION_ITEM_AT_STYLE, style, sizeof style), 0);
     same("edited sheet", "code", station_check(sheet, LENGTH), STATION_OK);
 }
 
@@ -219,16 +244,16 @@ static void try_check(void)
         size_t size;
         uint32_t code;
     } changes[] = {
-        {10, "\1", 1, STATION_LENGTH},
-        {0, "\2", 1, STATION_EDITION},
-        {2, "\0", 1, STATION_FRAME_SIZE},
-        {7, "\5", 1, STATION_COUNT},
-        {12, "\x19", 1, STATION_LAYOUT},
-        {FONT_RECORD + 18, "\x41", 1, STATION_FONT},
-        {MAPPING + 8, "\x80", 1, STATION_MAPPING_ILL_FORMED},
-        {MAPPING, "\0\xF0\x90\x80\x80\xF0\xA0\x80\x80", 9, STATION_MAPPING_TOO_LONG},
-        {ITEM_RECORD + 13, "\2", 1, STATION_ITEM},
-        {SLOT_0, "\xFF", 1, STATION_TEXT_ILL_FORMED},
+        {10, "\1", 1, STATION_REFUSED_LENGTH},
+        {0, "\2", 1, STATION_REFUSED_EDITION},
+        {2, "\0", 1, STATION_REFUSED_FRAME_SIZE},
+        {7, "\5", 1, STATION_REFUSED_COUNT},
+        {12, "\x19", 1, STATION_REFUSED_LAYOUT},
+        {FONT_RECORD + 18, "\x41", 1, STATION_REFUSED_FONT},
+        {MAPPING + 8, "\x80", 1, STATION_REFUSED_MAPPING_ILL_FORMED},
+        {MAPPING, "\0\xF0\x90\x80\x80\xF0\xA0\x80\x80", 9, STATION_REFUSED_MAPPING_TOO_LONG},
+        {ITEM_RECORD + STATION_ITEM_AT_STYLE, "\2", 1, STATION_REFUSED_ITEM},
+        {SLOT_0, "\xFF", 1, STATION_REFUSED_TEXT_ILL_FORMED},
     };
     for (size_t k = 0; k < sizeof changes / sizeof changes[0]; k++) {
         make_sheet();
@@ -252,22 +277,25 @@ static void try_refused_calls(void)
     memcpy(frame_before, frame, sizeof frame);
     memcpy(output_before, output, sizeof output);
 
-    number_is("station_contains in font 1", station_contains(sheet, LENGTH, 1, 'A'), STATION_NO_SUCH, 0);
-    box_is("station_bounding_box of 2", station_bounding_box(sheet, LENGTH, 2), STATION_NO_SUCH, 0, 0, 0, 0);
-    same("station_draw on a short frame", "code", station_draw(sheet, LENGTH, frame, PIXELS - 1), STATION_FRAME_LENGTH);
-    position_is("station_draw_item 2", station_draw_item(sheet, LENGTH, frame, PIXELS, 2), STATION_NO_SUCH, 0, 0);
-    position_is("station_draw_whitespace of 65,536", station_draw_whitespace(sheet, LENGTH, frame, PIXELS, 0, 65536), STATION_WHITESPACE, 0, 0);
-    box_is("station_set_text on a short frame", station_set_text(sheet, LENGTH, frame, 0, 0, bad_text, 1), STATION_FRAME_LENGTH, 0, 0, 0, 0);
-    box_is("station_set_text of 7 bytes", station_set_text(sheet, LENGTH, frame, PIXELS, 0, long_text, 7), STATION_NEW_TEXT_TOO_LONG, 0, 0, 0, 0);
-    box_is("station_set_text, cut", station_set_text(sheet, LENGTH, frame, PIXELS, 0, bad_text, 2), STATION_NEW_TEXT_ILL_FORMED, 0, 0, 0, 0);
-    box_is("station_set_place, x", station_set_place(sheet, LENGTH, frame, PIXELS, 0, -32769, 0), STATION_PLACE, 0, 0, 0, 0);
-    box_is("station_set_place, y", station_set_place(sheet, LENGTH, frame, PIXELS, 0, 0, INT32_MAX), STATION_PLACE, 0, 0, 0, 0);
-    box_is("station_set_style, mode", station_set_style(sheet, LENGTH, frame, PIXELS, 0, style, 8), STATION_STYLE, 0, 0, 0, 0);
-    box_is("station_set_style of 7 bytes", station_set_style(sheet, LENGTH, frame, PIXELS, 0, style, 7), STATION_STYLE, 0, 0, 0, 0);
-    box_is("station_set_text_on_sheet", station_set_text_on_sheet(sheet, LENGTH, 0, long_text, 7), STATION_NEW_TEXT_TOO_LONG, 0, 0, 0, 0);
-    box_is("station_set_place_on_sheet", station_set_place_on_sheet(sheet, LENGTH, 0, 32768, 0), STATION_PLACE, 0, 0, 0, 0);
-    box_is("station_set_style_on_sheet", station_set_style_on_sheet(sheet, LENGTH, 2, style, 8), STATION_NO_SUCH, 0, 0, 0, 0);
-    number_is("station_write_page, short output", station_write_page(sheet, LENGTH, frame, PIXELS, output, PAGE - 1), STATION_OUTPUT_TOO_SHORT, 0);
+    number_is("station_contains in font 1", station_contains(sheet, LENGTH, 1, 'A'), STATION_REFUSED_NO_SUCH, 0);
+    box_is("station_bounding_box of 2", station_bounding_box(sheet, LENGTH, 2), STATION_REFUSED_NO_SUCH, 0, 0, 0, 0);
+    same("station_draw on a short frame", "code", station_draw(sheet, LENGTH, frame, PIXELS - 1), STATION_REFUSED_FRAME_LENGTH);
+    position_is("station_draw_item 2", station_draw_item(sheet, LENGTH, frame, PIXELS, 2), STATION_REFUSED_NO_SUCH, 0, 0);
+    position_is("station_draw_whitespace of 65,536", station_draw_whitespace(sheet, LENGTH, frame, PIXELS, 0, 65536),
+                STATION_REFUSED_WHITESPACE, 0, 0);
+    box_is("station_set_text on a short frame", station_set_text(sheet, LENGTH, frame, 0, 0, bad_text, 1), STATION_REFUSED_FRAME_LENGTH, 0, 0, 0, 0);
+    box_is("station_set_text of 7 bytes", station_set_text(sheet, LENGTH, frame, PIXELS, 0, long_text, 7),
+           STATION_REFUSED_NEW_TEXT_TOO_LONG, 0, 0, 0, 0);
+    box_is("station_set_text, cut", station_set_text(sheet, LENGTH, frame, PIXELS, 0, bad_text, 2), STATION_REFUSED_NEW_TEXT_ILL_FORMED, 0, 0, 0, 0);
+    box_is("station_set_place, x", station_set_place(sheet, LENGTH, frame, PIXELS, 0, -32769, 0), STATION_REFUSED_PLACE, 0, 0, 0, 0);
+    box_is("station_set_place, y", station_set_place(sheet, LENGTH, frame, PIXELS, 0, 0, INT32_MAX), STATION_REFUSED_PLACE, 0, 0, 0, 0);
+    box_is("station_set_style, mode", station_set_style(sheet, LENGTH, frame, PIXELS, 0, style, 8), STATION_REFUSED_STYLE, 0, 0, 0, 0);
+    box_is("station_set_style of 7 bytes", station_set_style(sheet, LENGTH, frame, PIXELS, 0, style, 7), STATION_REFUSED_STYLE, 0, 0, 0, 0);
+    box_is("station_set_text_on_sheet", station_set_text_on_sheet(sheet, LENGTH, 0, long_text, 7), STATION_REFUSED_NEW_TEXT_TOO_LONG, 0, 0, 0, 0);
+    box_is("station_set_place_on_sheet", station_set_place_on_sheet(sheet, LENGTH, 0, 32768, 0), STATION_REFUSED_PLACE, 0, 0, 0, 0);
+    box_is("station_set_style_on_sheet", station_set_style_on_sheet(sheet, LENGTH, 2, style, 8), STATION_REFUSED_NO_SUCH, 0, 0, 0, 0);
+    number_is("station_write_page, short output", station_write_page(sheet, LENGTH, frame, PIXELS, output, PAGE - 1),
+              STATION_REFUSED_OUTPUT_TOO_SHORT, 0);
 
     same("refused calls", "sheet", memcmp(sheet, sheet_before, sizeof sheet), 0);
     same("refused calls", "frame", memcmp(frame, frame_before, sizeof frame), 0);
@@ -278,22 +306,22 @@ static void try_refused_calls(void)
 static void try_empty_slices(uint8_t *none)
 {
     make_sheet();
-    same("no sheet", "code", station_check(none, 0), STATION_LENGTH);
-    number_is("no sheet, index", station_index(none, 0, 0, 'A'), STATION_LENGTH, 0);
-    number_is("no sheet, contains", station_contains(none, 0, 0, 'A'), STATION_LENGTH, 0);
-    box_is("no sheet, bounding box", station_bounding_box(none, 0, 0), STATION_LENGTH, 0, 0, 0, 0);
-    same("no sheet and no frame", "code", station_draw(none, 0, none, 0), STATION_LENGTH);
-    same("no frame", "code", station_draw(sheet, LENGTH, none, 0), STATION_FRAME_LENGTH);
-    position_is("no frame, item", station_draw_item(sheet, LENGTH, none, 0, 0), STATION_FRAME_LENGTH, 0, 0);
-    position_is("no frame, whitespace", station_draw_whitespace(sheet, LENGTH, none, 0, 0, 1), STATION_FRAME_LENGTH, 0, 0);
-    box_is("no frame, place", station_set_place(sheet, LENGTH, none, 0, 0, 1, 1), STATION_FRAME_LENGTH, 0, 0, 0, 0);
-    number_is("no frame, page", station_write_page(sheet, LENGTH, none, 0, output, sizeof output), STATION_FRAME_LENGTH, 0);
-    number_is("no output", station_write_page(sheet, LENGTH, frame, PIXELS, none, 0), STATION_OUTPUT_TOO_SHORT, 0);
-    box_is("no style", station_set_style(sheet, LENGTH, frame, PIXELS, 0, none, 0), STATION_STYLE, 0, 0, 0, 0);
-    box_is("no style on the sheet", station_set_style_on_sheet(sheet, LENGTH, 0, none, 0), STATION_STYLE, 0, 0, 0, 0);
+    same("no sheet", "code", station_check(none, 0), STATION_REFUSED_LENGTH);
+    number_is("no sheet, index", station_index(none, 0, 0, 'A'), STATION_REFUSED_LENGTH, 0);
+    number_is("no sheet, contains", station_contains(none, 0, 0, 'A'), STATION_REFUSED_LENGTH, 0);
+    box_is("no sheet, bounding box", station_bounding_box(none, 0, 0), STATION_REFUSED_LENGTH, 0, 0, 0, 0);
+    same("no sheet and no frame", "code", station_draw(none, 0, none, 0), STATION_REFUSED_LENGTH);
+    same("no frame", "code", station_draw(sheet, LENGTH, none, 0), STATION_REFUSED_FRAME_LENGTH);
+    position_is("no frame, item", station_draw_item(sheet, LENGTH, none, 0, 0), STATION_REFUSED_FRAME_LENGTH, 0, 0);
+    position_is("no frame, whitespace", station_draw_whitespace(sheet, LENGTH, none, 0, 0, 1), STATION_REFUSED_FRAME_LENGTH, 0, 0);
+    box_is("no frame, place", station_set_place(sheet, LENGTH, none, 0, 0, 1, 1), STATION_REFUSED_FRAME_LENGTH, 0, 0, 0, 0);
+    number_is("no frame, page", station_write_page(sheet, LENGTH, none, 0, output, sizeof output), STATION_REFUSED_FRAME_LENGTH, 0);
+    number_is("no output", station_write_page(sheet, LENGTH, frame, PIXELS, none, 0), STATION_REFUSED_OUTPUT_TOO_SHORT, 0);
+    box_is("no style", station_set_style(sheet, LENGTH, frame, PIXELS, 0, none, 0), STATION_REFUSED_STYLE, 0, 0, 0, 0);
+    box_is("no style on the sheet", station_set_style_on_sheet(sheet, LENGTH, 0, none, 0), STATION_REFUSED_STYLE, 0, 0, 0, 0);
     step_is("no line", station_walk(none, 0, 0), 0, 1, 0, 0);
     box_is("empty text", station_set_text(sheet, LENGTH, frame, PIXELS, 1, none, 0), 0, 30, 19, 2, 4);
-    same("empty text", "length", stored(ITEM_RECORD + 28 + 10), 0);
+    same("empty text", "length", stored(ITEM_RECORD_1 + STATION_ITEM_AT_TEXT_LENGTH), 0);
     make_sheet();
     box_is("empty text on the sheet", station_set_text_on_sheet(sheet, LENGTH, 1, none, 0), 0, 30, 19, 2, 4);
     same("empty text on the sheet", "first byte", sheet[SLOT_1], 0);
@@ -304,6 +332,7 @@ int main(void)
     uint8_t some = 0;
     try_questions();
     try_walker();
+    try_walker_loop();
     try_drawing();
     try_page();
     try_edits(1);
