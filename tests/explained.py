@@ -1,6 +1,9 @@
 """Tests of 'tools/sheet explain': the number that it says is the one that station_check answers, and the byte is that of the fault.
 
 The program of tests/host/check.c, which answers station_check for many sheets, is the first argument of tests/tools.py.
+
+Usage: python3 tests/explained.py > FILE
+writes the samples and the stored sheets, each after its length, as the programs of tests/host read them.
 """
 import collections
 import random
@@ -16,9 +19,13 @@ SEED = 4127
 DAMAGES = 6_000
 
 
+def with_lengths(sheets):
+    """Sheets as the programs of tests/host read them."""
+    return b"".join(struct.pack("<I", len(b)) + b for b in sheets)
+
+
 def library_codes(sheets):
-    data = b"".join(struct.pack("<I", len(b)) + b for b in sheets)
-    run = subprocess.run([sys.argv[1]], input=data, capture_output=True, check=True)
+    run = subprocess.run([sys.argv[1]], input=with_lengths(sheets), capture_output=True, check=True)
     return [int(line) for line in run.stdout.split()]
 
 
@@ -166,3 +173,7 @@ def test_explain_bytes(_):
     same("bytes past the last slot", explain(grown)[:2], (5, len(sheet)))
     compare_with_library(sheets + [grown])
     return f"{len(changes) + 4} bytes"
+
+
+if __name__ == "__main__":
+    sys.stdout.buffer.write(with_lengths([path.with_suffix(".sheet").read_bytes() for path in SAMPLES] + stored()))

@@ -1,5 +1,7 @@
 """What the tests of tools/sheet share: a run of the tool, a comparison, and the run of all tests of a module."""
 import collections
+import contextlib
+import io
 import pathlib
 import subprocess
 import sys
@@ -9,20 +11,42 @@ sys.dont_write_bytecode = True
 ROOT = pathlib.Path(__file__).resolve().parents[1]
 sys.path[:0] = [str(ROOT / "tools")]
 
+from station_sheet import commands  # noqa: E402
+
 SAMPLES = sorted((ROOT / "samples").glob("*.toml"))
 
 Run = collections.namedtuple("Run", "status out err")
 
 
-def sheet_tool(*words, tool=ROOT / "tools" / "sheet"):
-    """One run of tools/sheet."""
-    run = subprocess.run([sys.executable, str(tool), *map(str, words)], capture_output=True, check=False)
-    return Run(run.returncode, run.stdout.decode("utf-8"), run.stderr.decode("utf-8"))
+def sheet_program(*words, given=b"", tool=ROOT / "tools" / "sheet"):
+    """One run of tools/sheet as a program of its own; standard output as bytes."""
+    run = subprocess.run([sys.executable, str(tool), *map(str, words)], input=given, capture_output=True, check=False)
+    return Run(run.returncode, run.stdout, run.stderr.decode("utf-8"))
+
+
+def sheet_tool(*words):
+    """One run of tools/sheet in this process, which is faster."""
+    out, err = io.TextIOWrapper(io.BytesIO(), encoding="utf-8"), io.StringIO()
+    with contextlib.redirect_stdout(out), contextlib.redirect_stderr(err):
+        try:
+            status = commands.main([str(word) for word in words])
+        except SystemExit as stop:
+            status = stop.code
+    out.flush()
+    return Run(status, out.buffer.getvalue().decode("utf-8"), err.getvalue())
 
 
 def same(what, got, expected):
     if got != expected:
         raise AssertionError(f"{what}: {got!r}, and {expected!r} is expected")
+
+
+def expect_error(run, status, words):
+    """That a run wrote nothing but one line on standard error, with these words."""
+    lines = run.err.split("\n")
+    same("standard output", len(run.out), 0)
+    if run.status != status or len(lines) != 2 or lines[1] or not lines[0].startswith("sheet: ") or words not in lines[0]:
+        raise AssertionError(f"status {run.status}, {run.err!r}; status {status} and one line with {words!r} are expected")
 
 
 def run_tests(module):

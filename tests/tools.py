@@ -1,9 +1,9 @@
-"""Tests of tools/sheet, the samples and the table of refusals.
+"""Tests of tools/sheet, the samples, the table of refusals and the header's numbers.
 
-Usage: python3 tests/tools.py CHECK
+Usage: python3 tests/tools.py CHECK ITEMS
 
-CHECK is the program of tests/host/check.c: it answers station_check for many sheets. Prints 'ok NAME' or 'FAILED NAME: why' for each
-test; the exit status is 1 if one failed.
+CHECK is the program of tests/host/check.c: it answers station_check for many sheets. ITEMS is that of tests/host/items.c: it measures a
+sheet's items. Prints 'ok NAME' or 'FAILED NAME: why' for each test; the exit status is 1 if one failed.
 """
 import os
 import re
@@ -13,10 +13,15 @@ import subprocess
 import sys
 import zlib
 
-from tool_runs import ROOT, SAMPLES, Run, run_tests, same, sheet_tool
+from tool_runs import ROOT, SAMPLES, Run, expect_error, run_tests, same, sheet_program, sheet_tool
 
+import described
 import explained
+import gate
+import guide
 import stored_sheets
+import wrong_inputs
+from station_sheet import layout, programs
 
 
 def page_of(sheet):
@@ -54,28 +59,75 @@ def test_ascii_is_complete(_):
 
 # ---- show
 
-def test_show(_):
+class Measured:
+    """Programs in a folder of the test's own: station_items is that of tests/host/items.c, or is not there."""
+
+    def __init__(self, folder, items):
+        self.folder, self.items = folder, items
+
+    def __enter__(self):
+        self.there, programs.FOLDER = programs.FOLDER, self.folder
+        if self.items:
+            shutil.copy(self.items, self.folder / "station_items")
+
+    def __exit__(self, *_):
+        programs.FOLDER = self.there
+
+
+def measured_by_host(sheet):
+    run = subprocess.run([sys.argv[2]], input=sheet, capture_output=True, check=True)
+    return run.stdout.decode("ascii")
+
+
+def test_show(folder):
     for description in SAMPLES:
         sheet = description.with_suffix(".sheet").read_bytes()
-        run = sheet_tool("show", description.with_suffix(".sheet"))
+        with Measured(folder, sys.argv[2]):
+            run = sheet_tool("show", description.with_suffix(".sheet"))
         same(f"show {description.stem}: status and errors", (run.status, run.err), (0, ""))
         lines = run.out.split("\n")
         fonts, items = sheet[7], stored_sheets.number(sheet, 8, 2)
-        same("lines", len(lines), 2 + 4 * fonts + 3 * items + 1)
+        same("lines", len(lines), 2 + 4 * fonts + 4 * items + 1)
         for k in range(fonts):
             o = 24 + 28 * k
             same("font", lines[2 + 4 * k].split(",")[0], f"font {k} at {o}: cell {sheet[o + 18]} by {sheet[o + 19]}")
             for line, at, size in ((4, 0, 4), (5, 8, 2)):
                 start = f"    {'atlas' if line == 4 else 'mapping'} at {stored_sheets.number(sheet, o + at, 4)}: "
                 same("piece", lines[line + 4 * k].startswith(start + f"{stored_sheets.number(sheet, o + at + 4, size)} bytes"), True)
+        measured = measured_by_host(sheet).splitlines()
         for k in range(items):
             o = 24 + 28 * fonts + 28 * k
             x, y, slot, size, length = struct.unpack_from("<hhIHH", sheet, o)
-            record, style, text = lines[2 + 4 * fonts + 3 * k:][:3]
+            record, style, text, box = lines[2 + 4 * fonts + 4 * k:][:4]
             same("item", record.startswith(f"item {k} at {o}: x {x}, y {y}, font {sheet[o + 12]}, "), True)
             same("style", style.startswith(f"    style at {o + 13}: text {sheet[o + 14] if sheet[o + 13] else 'none'}, "), True)
             stored = sheet[slot:slot + length].decode("utf-8").replace("\n", "\\n")
             same("text", text, f'    slot at {slot}: {size} bytes, text {length} bytes: "{stored}"')
+            same("box", " ".join([str(k), *re.findall(r"-?\d+", box)]), measured[k])
+
+
+def test_show_without_program(folder):
+    with Measured(folder, None):
+        run = sheet_tool("show", ROOT / "samples/greek.sheet")
+    same("status", run.status, 0)
+    same("lines", run.out.count("\n"), 2 + 4 + 3 * 11)
+    same("how to make it", ("'rt check station_items' makes it" in run.err, run.err.count("\n")), (True, 1))
+    (folder / "station_items").write_text("#!/bin/sh\necho 0 1 2 3\n", encoding="ascii")
+    (folder / "station_items").chmod(0o755)
+    with Measured(folder, None):
+        expect_error(sheet_tool("show", ROOT / "samples/greek.sheet"), 2, "something else than seven numbers")
+
+
+def test_station_items(_):
+    """Where the program is built, it measures as the exported calls do, on the samples and on each stored sheet."""
+    program = ROOT / "target/bin/station_items"
+    if not program.is_file():
+        return "target/bin/station_items is not there"
+    sheets = [path.with_suffix(".sheet").read_bytes() for path in SAMPLES] + explained.stored()
+    for k, sheet in enumerate(sheets):
+        run = subprocess.run([program], input=sheet, capture_output=True, check=False)
+        same(f"sheet {k}", run.stdout.decode("ascii"), measured_by_host(sheet))
+    return f"{len(sheets)} sheets"
 
 
 def test_show_refused(folder):
@@ -181,13 +233,6 @@ FONT_ERRORS = [
 ]
 
 
-def expect_error(run, status, words):
-    lines = run.err.split("\n")
-    same("standard output", run.out, "")
-    if run.status != status or len(lines) != 2 or lines[1] or not lines[0].startswith("sheet: ") or words not in lines[0]:
-        raise AssertionError(f"status {run.status}, {run.err!r}; status {status} and one line with {words!r} are expected")
-
-
 def test_errors_of_new(folder):
     good = GOOD.replace("FONT", str(ROOT / "samples/fonts/plain-6x10.txt"))
     description, out = folder / "a.toml", folder / "a.sheet"
@@ -198,7 +243,7 @@ def test_errors_of_new(folder):
         description.write_text(GOOD.replace(old, new, 1).replace("FONT", str(ROOT / "samples/fonts/plain-6x10.txt")), encoding="utf-8")
         expect_error(sheet_tool("new", description, out), 2 if "No such" in words else 1, words)
     description.write_bytes(b"\xff\xfe")
-    expect_error(sheet_tool("new", description, out), 1, "no TOML")
+    expect_error(sheet_tool("new", description, out), 1, "UTF-8")
     same("a sheet written in spite of an error", out.exists(), False)
     return f"{len(DESCRIPTION_ERRORS) + 1} descriptions"
 
@@ -246,27 +291,17 @@ def test_errors_of_output(_):
         run = subprocess.run(words, stdout=full, stderr=subprocess.PIPE, check=False)
     expect_error(Run(run.returncode, "", run.stderr.decode("utf-8")), 2, "standard output")
     run = subprocess.run(words, capture_output=True, check=False, env={**os.environ, "PYTHONIOENCODING": "ascii"})
-    same("status and errors in ASCII", (run.returncode, run.stderr), (0, b""))
-
-
-def test_description_of_readme(folder):
-    """The description in tools/README.md builds a sheet."""
-    blocks = re.findall(r"(?:^(?:    .*)?\n)+", (ROOT / "tools/README.md").read_text(encoding="utf-8"), re.M)
-    block = next(b for b in blocks if "    [frame]" in b)
-    shutil.copytree(ROOT / "samples/fonts", folder / "fonts")
-    (folder / "a.toml").write_text(block, encoding="utf-8")
-    run = sheet_tool("new", folder / "a.toml", folder / "a.sheet")
-    same("status and errors", (run.status, run.err), (0, ""))
-    same("named items", run.out.split("\n")[1], "item 0: discharge")
+    same("status in ASCII", run.returncode, 0)
+    same("errors in ASCII", [line for line in run.stderr.splitlines() if b"station_items is missing" not in line], [])
 
 
 def test_view_without_program(folder):
     shutil.copytree(ROOT / "tools", folder / "elsewhere" / "tools")
     tool = folder / "elsewhere" / "tools" / "sheet"
-    run = sheet_tool("view", ROOT / "samples/greek.sheet", folder / "b.png", tool=tool)
+    run = sheet_program("view", ROOT / "samples/greek.sheet", folder / "b.png", tool=tool)
     expect_error(run, 2, "target/bin/station_page is missing")
-    run = sheet_tool("view", ROOT / "samples/greek.sheet", folder / "b.png", "--page", ROOT / "samples/greek.pgm", tool=tool)
-    same("view with a page", run, Run(0, "", ""))
+    run = sheet_program("view", ROOT / "samples/greek.sheet", folder / "b.png", "--page", ROOT / "samples/greek.pgm", tool=tool)
+    same("view with a page", run, Run(0, b"", ""))
 
 
 def test_tool_is_executable(_):
@@ -279,16 +314,54 @@ def test_tool_is_executable(_):
 def test_refusals(_):
     header = (ROOT / "include/station.h").read_text(encoding="utf-8")
     table = (ROOT / "docs/REFUSALS.md").read_text(encoding="utf-8")
-    named = [(int(n), name) for name, n in re.findall(r"^    STATION_(\w+) = (\d+),?$", header, re.M)]
+    named = [(int(n), name) for name, n in re.findall(r"^    STATION_REFUSED_(\w+) = (\d+),?$", header, re.M)]
     documented = [(int(n), name) for n, name in re.findall(r"^\| (\d+) \| `(\w+)` \|", table, re.M)]
-    same("names of docs/REFUSALS.md", documented, named[1:])
-    same("numbers", [n for n, _ in named], list(range(19)))
+    same("names of docs/REFUSALS.md", documented, named)
+    same("numbers", [n for n, _ in named], list(range(1, 19)))
+
+
+# ---- the header's numbers
+
+def offsets(form, fields):
+    """Where each field stands in a record of this form."""
+    kinds = [kind for count, kind in re.findall(r"(\d*)(\w)", form.format.lstrip("<")) for _ in range(int(count or 1))]
+    return {name: struct.calcsize("<" + "".join(kinds[:k])) for k, name in enumerate(fields)}
+
+
+def test_offsets_of_header(_):
+    """The offsets of include/station.h are those of tools/station_sheet/layout.py, by which the sheets are built and explained."""
+    text = (ROOT / "include/station.h").read_text(encoding="utf-8")
+    stated = {name: int(value) for name, value in re.findall(r"^#define STATION_((?:ITEM_)?AT_\w+) (\d+)$", text, re.M)}
+    header, item = offsets(layout.HEADER_FORM, layout.Header._fields), offsets(layout.ITEM_FORM, layout.Item._fields)
+    expected = {f"AT_{name.upper()}": header[name] for name in ("width", "height", "paper", "fonts", "items", "length")}
+    named = dict(x="x", y="y", slot="slot_at", slot_size="slot_size", text_length="text_length", font="font", style="text_mode",
+                 alignment="alignment", baseline="baseline", height_kind="height_kind", height="height_value")
+    expected.update({f"ITEM_AT_{name.upper()}": item[field] for name, field in named.items()})
+    same("offsets", stated, expected)
+    records = re.findall(r"^#define STATION_(?:FONT|ITEM)_RECORD\(.*\) \((\d+) \+ (\d+) \*", text, re.M)
+    same("records", records, [(str(layout.HEADER_SIZE), str(layout.FONT_SIZE)), (str(layout.HEADER_SIZE), str(layout.ITEM_SIZE))])
+    most = dict(re.findall(r"^#define STATION_MOST_(\w+) (\d+)$", text, re.M))
+    same("sizes", most, dict(SHEET=str(layout.MOST_BYTES), FRAME=str(layout.MOST_AREA), PAGE=str(layout.MOST_AREA + 15), SLOT=str(layout.MOST_SLOT)))
+
+
+def test_walk_of_header(_):
+    """The loop over a line that the header shows is the one that the logger and tests/host/layout.c run."""
+    for name in ("include/station.h", "examples/logger/main.c", "tests/host/layout.c"):
+        text = (ROOT / name).read_text(encoding="utf-8")
+        same(f"the loop of {name}", "while (step.code == STATION_OK && step.ended == 0" in text, True)
+
+
+def test_version_of_header(_):
+    text = (ROOT / "include/station.h").read_text(encoding="utf-8")
+    parts = [re.search(rf"^#define STATION_VERSION_{part} (\d+)$", text, re.M)[1] for part in ("MAJOR", "MINOR", "PATCH")]
+    same("version", re.search(r'^#define STATION_VERSION "(.*)"$', text, re.M)[1], ".".join(parts))
 
 
 def main():
-    if len(sys.argv) != 2:
-        sys.exit("usage: python3 tests/tools.py CHECK")
-    return 1 if run_tests(explained) + run_tests(sys.modules[__name__]) else 0
+    if len(sys.argv) != 3:
+        sys.exit("usage: python3 tests/tools.py CHECK ITEMS")
+    modules = (explained, sys.modules[__name__], described, wrong_inputs, guide, gate)
+    return 1 if sum(run_tests(module) for module in modules) else 0
 
 
 if __name__ == "__main__":

@@ -1,4 +1,4 @@
-"""The parts of tools/sheet: building, printing, explaining and viewing station sheets."""
+"""The parts of tools/sheet: building, printing, explaining, describing, comparing and viewing station sheets."""
 
 
 class Problem(Exception):
@@ -7,3 +7,8 @@ class Problem(Exception):
     def __init__(self, line, status=1):
         super().__init__(line)
         self.status = status
+
+
+def one_line(text):
+    """A text without line ends and other characters that do not print: these as in \\n or \\x1b."""
+    return "".join(c if c.isprintable() else c.encode("unicode_escape").decode("ascii") for c in text)

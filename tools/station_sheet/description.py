@@ -1,195 +1,326 @@
 """Sheets from readable descriptions in TOML; tools/README.md lists the keys."""
+import re
 import tomllib
+from collections import namedtuple
+from functools import lru_cache
 from pathlib import Path
 
 from . import Problem
-from .bitmap import read_font
+from .bitmap import bits, parse_font
 from .explain import explain
+from .files import input_name
 from .layout import (ALIGNMENTS, BASELINES, EDITION, FONT_FORM, FONT_SIZE, HEADER_FORM, HEADER_SIZE, HEIGHT_KINDS, ITEM_FORM, ITEM_SIZE,
-                     MOST_ATLAS_WIDTH, MOST_HEIGHT, MOST_SIDE, MOST_SLOT, code_point)
+                     MOST_ATLAS_WIDTH, MOST_CELL, MOST_HEIGHT, MOST_SIDE, MOST_SLOT, code_point, spelled)
+from .toml_lines import Lines
 
-STYLE_KEYS = {"font", "text_grey", "background_grey", "underline", "strikethrough", "alignment", "baseline", "line_height"}
-ITEM_KEYS = STYLE_KEYS | {"name", "style", "x", "y", "text", "lines", "slot"}
+GREYS = ("text_grey", "background_grey")
+DECORATIONS = ("underline", "strikethrough")
+UNUSED = {**{key: f"unused_{key}" for key in GREYS}, **{key: f"unused_{key}_grey" for key in DECORATIONS}}
+STYLE_KEYS = {"font", *GREYS, *DECORATIONS, *UNUSED.values(), "alignment", "baseline", "line_height"}
+ITEM_KEYS = STYLE_KEYS | {"name", "style", "x", "y", "text", "lines", "slot", "missing_glyphs"}
+BITMAP_KEYS = {"name", "file", "bitmap", "columns", "mapping", "replacement"}
+ATLAS_KEYS = {"name", "cell", "spacing", "baseline", "strikethrough", "underline", "replacement", "mapping", "atlas_width", "atlas", "atlas_tail"}
 WIDEST_FIELD = 65_535
+FIRST_PLACE, LAST_PLACE = -32_768, 32_767
+
+# What a description says. A font's numbers are those of its record after the atlas's width; an item's layout is its alignment, baseline,
+# height kind and height value.
+Description = namedtuple("Description", "frame fonts items warnings")
+FontPart = namedtuple("FontPart", "name atlas mapping replacement atlas_width numbers")
+ItemPart = namedtuple("ItemPart", "name place text slot font style layout table")
 
 
 class Table:
-    """A table of the description, with the name that messages give it."""
+    """A table of the description, with the name that messages give it, and the path by which its line is found."""
 
-    def __init__(self, entries, name, keys):
+    def __init__(self, entries, name, keys, lines, path):
+        self.entries, self.name, self.lines, self.path = entries, name, lines, path
         if not isinstance(entries, dict):
-            raise Problem(f"{name} must be a table")
+            raise Problem(f"{self.where()} must be a table")
         for key in entries:
             if key not in keys:
-                raise Problem(f"{name}: '{key}' is no key here; the keys are {', '.join(sorted(keys))}")
-        self.entries, self.name = entries, name
+                raise self.problem(key, f"'{key}' is no key here; the keys are {', '.join(sorted(keys))}")
+
+    def where(self, key=None):
+        line = self.lines.of(self.path if key is None else (*self.path, key))
+        return f"line {line}: {self.name}" if line is not None else self.name
+
+    def problem(self, key, message):
+        return Problem(f"{self.where(key)}: {message}")
+
+    def __contains__(self, key):
+        return key in self.entries
 
     def number(self, key, low, high, default=None):
+        return self.whole(key, self.entries.get(key, default), low, high)
+
+    def whole(self, key, value, low, high):
+        if value is None:
+            raise self.problem(key, f"'{key}' is missing")
+        if not isinstance(value, int) or isinstance(value, bool) or not low <= value <= high:
+            raise self.problem(key, f"'{key}' must be a whole number from {low} to {high}")
+        return value
+
+    def pair(self, key, high, default=None):
         value = self.entries.get(key, default)
         if value is None:
-            raise Problem(f"{self.name}: '{key}' is missing")
-        return whole(value, low, high, f"{self.name}: '{key}'")
+            raise self.problem(key, f"'{key}' is missing")
+        if not isinstance(value, (list, tuple)) or len(value) != 2:
+            raise self.problem(key, f"'{key}' is a list of two numbers")
+        return tuple(self.whole(key, part, 0, high) for part in value)
 
     def string(self, key, default=None):
         value = self.entries.get(key, default)
         if value is None:
-            raise Problem(f"{self.name}: '{key}' is missing")
+            raise self.problem(key, f"'{key}' is missing")
         if not isinstance(value, str):
-            raise Problem(f"{self.name}: '{key}' must be a string")
+            raise self.problem(key, f"'{key}' must be a string")
         return value
 
-    def choice(self, key, among, default):
-        value = self.string(key, default).lower()
+    def choice(self, key, among):
+        value = self.string(key).lower()
         lowered = [word.lower() for word in among]
         if value not in lowered:
-            raise Problem(f"{self.name}: '{key}' is one of {', '.join(lowered)}")
+            raise self.problem(key, f"'{key}' is one of {', '.join(lowered)}")
         return lowered.index(value)
 
-    def list_of_tables(self, key):
+    def tables(self, key, name, keys):
+        """The tables of [[key]], each with its number in its name."""
         value = self.entries.get(key, [])
         if not isinstance(value, list):
-            raise Problem(f"{self.name}: write '{key}' as [[{key}]]")
-        return value
+            raise self.problem(key, f"write '{key}' as [[{key}]]")
+        return [Table(entries, f"{name} {number}", keys, self.lines, (key, number)) for number, entries in enumerate(value)]
 
 
-def whole(value, low, high, name):
-    if not isinstance(value, int) or isinstance(value, bool) or not low <= value <= high:
-        raise Problem(f"{name} must be a whole number from {low} to {high}")
-    return value
-
-
-def read_description(path):
+def read_description(files, path):
+    """The parts of a description."""
+    name = input_name(path)
+    text = files.read_text(path)
     try:
-        with open(path, "rb") as file:
-            return tomllib.load(file)
-    except OSError as error:
-        raise Problem(f"{path}: {error.strerror}", 2) from None
-    except (tomllib.TOMLDecodeError, UnicodeDecodeError) as error:
-        raise Problem(f"{path}: no TOML: {error}") from None
-
-
-def build(path):
-    """The sheet of a description, and the names of its items by number."""
-    entries = read_description(path)
+        entries = tomllib.loads(text)
+    except tomllib.TOMLDecodeError as error:
+        raise Problem(f"{name}: no TOML: {error}") from None
+    except RecursionError:
+        raise Problem(f"{name}: no description: its lists or tables are nested too deeply") from None
+    except ValueError:
+        digits = re.search(r"[0-9_]{4000,}", text)
+        line = f"line {text.count(chr(10), 0, digits.start()) + 1}: " if digits else ""
+        raise Problem(f"{name}: {line}a number has too many digits") from None
     try:
-        return build_sheet(Table(entries, "the description", {"frame", "font", "style", "item"}), Path(path).parent)
+        top = Table(entries, "the description", {"frame", "font", "style", "item"}, Lines(text), ())
+        return read_parts(top, files, Path(path).parent if path != "-" else Path())
     except Problem as problem:
-        raise Problem(f"{path}: {problem}", problem.status) from None
+        raise Problem(f"{name}: {problem}", problem.status) from None
 
 
-def build_sheet(description, folder):
-    frame = Table(description.entries.get("frame", {}), "frame", {"width", "height", "paper"})
-    width, height = frame.number("width", 1, MOST_SIDE), frame.number("height", 1, MOST_SIDE)
-    paper = frame.number("paper", 0, 255)
-    fonts = [read_font_entry(entries, number, folder) for number, entries in enumerate(description.list_of_tables("font"))]
-    styles = description.entries.get("style", {})
-    if not isinstance(styles, dict):
-        raise Problem("write a style as [style.NAME]")
-    for name, entries in styles.items():
-        Table(entries, f"style '{name}'", STYLE_KEYS)
-    items = [read_item_entry(entries, number, fonts, styles) for number, entries in enumerate(description.list_of_tables("item"))]
-    sheet = assemble((width, height, paper), [font for _, font in fonts], [item for _, item in items])
+def read_parts(top, files, folder):
+    warnings = []
+    if "frame" not in top:
+        raise Problem("[frame] is missing, with width, height and paper")
+    frame = Table(top.entries["frame"], "frame", {"width", "height", "paper"}, top.lines, ("frame",))
+    size = frame.number("width", 1, MOST_SIDE), frame.number("height", 1, MOST_SIDE), frame.number("paper", 0, 255)
+    fonts = [read_font(table, files, folder, warnings) for table in top.tables("font", "font", BITMAP_KEYS | ATLAS_KEYS)]
+    names = [font.name for font in fonts]
+    warnings += [f"font {k}: the name '{name}' is that of font {names.index(name)}, which items with this name get"
+                 for k, name in enumerate(names) if names.index(name) != k]
+    if not isinstance(top.entries.get("style", {}), dict):
+        raise top.problem("style", "write a style as [style.NAME]")
+    styles = {name: read_style(Table(entries, f"style '{name}'", STYLE_KEYS, top.lines, ("style", name)), names)
+              for name, entries in top.entries.get("style", {}).items()}
+    items = [read_item(table, fonts, styles) for table in top.tables("item", "item", ITEM_KEYS)]
+    warnings += same_names(items)
+    return Description(size, fonts, items, warnings)
+
+
+def same_names(items):
+    first = {}
+    for number, item in enumerate(items):
+        if item.name and first.setdefault(item.name, number) != number:
+            yield f"{item.table.where('name')}: the name is also that of item {first[item.name]}"
+
+
+# ---- fonts
+
+def read_font(table, files, folder, warnings):
+    """A font: bitmap text in a file or in the description, or an atlas with its mapping."""
+    if "atlas_width" in table:
+        return read_atlas_font(Table(table.entries, table.name, ATLAS_KEYS, table.lines, table.path))
+    Table(table.entries, table.name, BITMAP_KEYS, table.lines, table.path)
+    if "file" in table and "bitmap" in table:
+        raise table.problem("bitmap", "'bitmap' stands in the place of 'file'")
+    if "bitmap" in table:
+        font = parse_font(table.string("bitmap"), f"{table.where('bitmap')}: bitmap")
+    else:
+        path = folder / table.string("file")
+        try:
+            text = files.read_text(path)
+        except Problem as problem:
+            raise Problem(f"{table.where('file')}: {problem}", problem.status) from None
+        font = parse_font(text, str(path))
+    warnings += font.warnings
+    columns = table.number("columns", 1, MOST_ATLAS_WIDTH, font.most_columns())
+    if columns * font.words["cell"][0] > MOST_ATLAS_WIDTH:
+        raise table.problem("columns", f"{columns} columns make an atlas of {columns * font.words['cell'][0]}, above {MOST_ATLAS_WIDTH}")
+    width, atlas = font.atlas(columns)
+    words = font.words
+    numbers = (*words["cell"], *words["spacing"], *words["baseline"], *words["strikethrough"], *words["underline"])
+    if len(font.glyphs) > WIDEST_FIELD:
+        raise table.problem("file", "the font has too many glyphs")
+    replacement = table.number("replacement", 0, WIDEST_FIELD, font.replacement_index())
+    mapping = table.string("mapping").encode("utf-8") if "mapping" in table else font.mapping()
+    return finished_font(table, FontPart(table.string("name", str(table.path[1])), atlas, mapping, replacement, width, numbers))
+
+
+def read_atlas_font(table):
+    """A font whose atlas is drawn whole: rows of '.' and '#', spare bits behind a blank, and bytes that are no whole row."""
+    width = table.number("atlas_width", 0, MOST_ATLAS_WIDTH)
+    spare = -width % 8
+    data = []
+    rows = table.string("atlas", "").strip("\n")
+    for number, row in enumerate(rows.split("\n") if rows else [], 1):
+        seen, _, rest = row.partition(" ")
+        if width == 0 or len(seen) != width or len(rest) not in (0, spare) or set(seen + rest) - set(".#"):
+            raise table.problem("atlas", f"row {number} of 'atlas' needs {width} of '.' and '#'" +
+                                (f", or these, a blank and {spare} spare ones" if spare else ""))
+        data.append(bits(seen + rest))
+    tail = table.string("atlas_tail", "")
+    if not re.fullmatch(r"\s*(?:[0-9A-Fa-f]{2}\s*)*", tail):
+        raise table.problem("atlas_tail", "'atlas_tail' has bytes of two hexadecimal digits each")
+    cell = table.pair("cell", MOST_CELL)
+    numbers = (*cell, table.number("spacing", 0, MOST_CELL, 0), table.number("baseline", 0, 255, 0), *table.pair("strikethrough", 255, (0, 0)),
+               *table.pair("underline", 255, (0, 0)))
+    part = FontPart(table.string("name", str(table.path[1])), b"".join(data) + bytes.fromhex(tail), table.string("mapping").encode("utf-8"),
+                    table.number("replacement", 0, WIDEST_FIELD), width, numbers)
+    return finished_font(table, part)
+
+
+def finished_font(table, font):
+    if len(font.mapping) > WIDEST_FIELD:
+        raise table.problem("mapping", f"the mapping has {len(font.mapping)} bytes, above {WIDEST_FIELD}")
+    return font
+
+
+@lru_cache(maxsize=8)
+def listed_runs(mapping):
+    """The first and last character of each run that a mapping lists."""
+    return [(first, last) for _, first, last in spelled([ord(c) for c in mapping.decode("utf-8")])]
+
+
+def lists(font, value):
+    """Whether a font's mapping lists a character."""
+    return any(first <= value <= last for first, last in listed_runs(font.mapping))
+
+
+# ---- styles and items
+
+def read_style(table, fonts):
+    """What a style or an item says of the keys that both may have; what it does not say is not there."""
+    said = {}
+    if "font" in table:
+        name = table.string("font")
+        if name not in fonts:
+            raise table.problem("font", f"there is no font '{name}'")
+        said["font"] = fonts.index(name)
+    for key in (*GREYS, *UNUSED.values()):
+        if key in table:
+            said[key] = table.number(key, 0, 255)
+    for key in DECORATIONS:
+        value = table.entries.get(key)
+        if isinstance(value, str) and value != "text colour":
+            raise table.problem(key, f"'{key}' is a grey or \"text colour\"")
+        if value is not None:
+            said[key] = value if isinstance(value, str) else table.number(key, 0, 255)
+    for key, among in (("alignment", ALIGNMENTS), ("baseline", BASELINES)):
+        if key in table:
+            said[key] = table.choice(key, among)
+    if "line_height" in table:
+        said["line_height"] = line_height(table)
+    return said
+
+
+def line_height(table):
+    """The height's kind and value."""
+    value = table.entries["line_height"]
+    if isinstance(value, str):
+        percent = re.fullmatch(r"([0-9]{1,6})%", value)
+        if percent is None:
+            raise table.problem("line_height", "'line_height' is a number of pixels or a string as \"150%\"")
+        return HEIGHT_KINDS.index("percent"), table.whole("line_height", int(percent[1]), 0, MOST_HEIGHT)
+    return HEIGHT_KINDS.index("pixels"), table.whole("line_height", value, 0, MOST_HEIGHT)
+
+
+def read_item(table, fonts, styles):
+    if "name" in table:
+        table.name += f" ({table.string('name')})"
+    style = table.string("style", "")
+    if "style" in table and style not in styles:
+        raise table.problem("style", f"there is no style '{style}'")
+    said = {**styles.get(style, {}), **read_style(table, [font.name for font in fonts])}
+    text = item_text(table)
+    slot = table.number("slot", 0, MOST_SLOT, min(len(text), MOST_SLOT))
+    if len(text) > slot:
+        raise table.problem("slot", f"the text has {len(text)} bytes, and its slot {slot}")
+    if not fonts:
+        raise table.problem(None, "an item needs a font, and the description has none")
+    font = said.get("font", 0)
+    if not isinstance(table.entries.get("missing_glyphs", False), bool):
+        raise table.problem("missing_glyphs", "'missing_glyphs' is true or false")
+    missing = [c for c in dict.fromkeys(text.decode("utf-8")) if c not in "\n\r" and not lists(fonts[font], ord(c))]
+    if missing and not table.entries.get("missing_glyphs"):
+        raise table.problem("text", f"font '{fonts[font].name}' has no glyph for {code_point(ord(missing[0]))} ({missing[0]!r}); "
+                                    "with 'missing_glyphs = true' its replacement is taken")
+    place = table.number("x", FIRST_PLACE, LAST_PLACE), table.number("y", FIRST_PLACE, LAST_PLACE)
+    layout = said.get("alignment", 0), said.get("baseline", 0), *said.get("line_height", (HEIGHT_KINDS.index("percent"), 100))
+    return ItemPart(table.string("name", ""), place, text, slot, font, style_bytes(table, said), layout, table)
+
+
+def item_text(table):
+    if "lines" in table:
+        lines = table.entries["lines"]
+        if "text" in table or not isinstance(lines, list) or not all(isinstance(line, str) for line in lines):
+            raise table.problem("lines", "'lines' is a list of strings, and stands in the place of 'text'")
+        return "\n".join(lines).encode("utf-8")
+    return table.string("text").encode("utf-8")
+
+
+def style_bytes(table, said):
+    """Bytes 13 to 20 of an item: text, background, underline and strikethrough, each a mode and a grey."""
+    data = []
+    for key in (*GREYS, *DECORATIONS):
+        value, unused = said.get(key), said.get(UNUSED[key])
+        if unused is not None and isinstance(value, int):
+            raise table.problem(UNUSED[key], f"'{UNUSED[key]}' is for a grey that is not used, and '{key}' is set")
+        if isinstance(value, int):
+            data += [1 if key in GREYS else 2, value]
+        else:
+            data += [0 if value is None else 1, unused or 0]
+    return bytes(data)
+
+
+# ---- the sheet
+
+def sheet_of(description):
+    """The sheet's bytes."""
+    sheet = assemble(description.frame, description.fonts, description.items)
     refusal = explain(sheet)
     if refusal is not None:
         raise Problem(f"the sheet would be refused with {refusal.number}: {refusal.cause}")
-    return sheet, {number: name for number, (name, _) in enumerate(items) if name}
-
-
-def read_font_entry(entries, number, folder):
-    """A font's name and bitmap, and its atlas's width and bytes."""
-    table = Table(entries, f"font {number}", {"name", "file", "columns"})
-    bitmap = read_font(folder / table.string("file"))
-    columns = table.number("columns", 1, MOST_ATLAS_WIDTH, bitmap.most_columns())
-    atlas_width, atlas = bitmap.atlas(columns)
-    if atlas_width > MOST_ATLAS_WIDTH:
-        raise Problem(f"{table.name}: {columns} columns make an atlas of {atlas_width}, above {MOST_ATLAS_WIDTH}")
-    return table.string("name", str(number)), (bitmap, atlas_width, atlas)
-
-
-def read_item_entry(entries, number, fonts, styles):
-    """An item's name, and its place, text, slot size, font number and the rest of its record."""
-    own = Table(entries, f"item {number}", ITEM_KEYS)
-    if "name" in entries:
-        own.name += f" ({own.string('name')})"
-    style = own.string("style", "")
-    if style and style not in styles:
-        raise Problem(f"{own.name}: there is no style '{style}'")
-    item = Table({**styles.get(style, {}), **entries}, own.name, ITEM_KEYS)
-    text = item_text(item)
-    slot = item.number("slot", 0, MOST_SLOT, min(len(text), MOST_SLOT))
-    if len(text) > slot:
-        raise Problem(f"{item.name}: the text has {len(text)} bytes, and its slot {slot}")
-    names = [name for name, _ in fonts]
-    if not names:
-        raise Problem(f"{item.name}: an item needs a font, and the description has none")
-    name = item.string("font", names[0])
-    if name not in names:
-        raise Problem(f"{item.name}: there is no font '{name}'")
-    font = names.index(name)
-    missing = [c for c in text.decode("utf-8") if ord(c) not in fonts[font][1][0].glyphs and c not in "\n\r"]
-    if missing:
-        raise Problem(f"{item.name}: font '{name}' has no glyph for {code_point(ord(missing[0]))} ({missing[0]!r})")
-    place = item.number("x", -32_768, 32_767), item.number("y", -32_768, 32_767)
-    return item.string("name", ""), (place, text, slot, font, style_bytes(item), layout_fields(item))
-
-
-def item_text(item):
-    if "lines" in item.entries:
-        lines = item.entries["lines"]
-        if "text" in item.entries or not isinstance(lines, list) or not all(isinstance(line, str) for line in lines):
-            raise Problem(f"{item.name}: 'lines' is a list of strings, and stands in the place of 'text'")
-        return "\n".join(lines).encode("utf-8")
-    return item.string("text").encode("utf-8")
-
-
-def style_bytes(item):
-    """Bytes 13 to 20 of an item: text, background, underline and strikethrough, each a mode and a grey."""
-    data = b""
-    for key in ("text_grey", "background_grey"):
-        data += bytes((1, item.number(key, 0, 255))) if key in item.entries else bytes(2)
-    for key in ("underline", "strikethrough"):
-        value = item.entries.get(key)
-        if value is None:
-            data += bytes(2)
-        elif value == "text colour":
-            data += bytes((1, 0))
-        elif isinstance(value, str):
-            raise Problem(f"{item.name}: '{key}' is a grey or \"text colour\"")
-        else:
-            data += bytes((2, item.number(key, 0, 255)))
-    return data
-
-
-def layout_fields(item):
-    """Alignment, baseline, height kind and height value."""
-    alignment = item.choice("alignment", ALIGNMENTS, "left")
-    baseline = item.choice("baseline", BASELINES, "top")
-    value = item.entries.get("line_height", "100%")
-    name = f"{item.name}: 'line_height'"
-    if isinstance(value, str):
-        if not value.endswith("%") or not value[:-1].isascii() or not value[:-1].isdecimal():
-            raise Problem(f"{name} is a number of pixels or a string as \"150%\"")
-        return alignment, baseline, HEIGHT_KINDS.index("percent"), whole(int(value[:-1]), 0, MOST_HEIGHT, name)
-    return alignment, baseline, HEIGHT_KINDS.index("pixels"), whole(value, 0, MOST_HEIGHT, name)
+    return sheet
 
 
 def assemble(frame, fonts, items):
-    """The bytes: header, records, then each font's atlas and mapping and each item's slot, without gaps."""
-    at = HEADER_SIZE + FONT_SIZE * len(fonts) + ITEM_SIZE * len(items)
-    records, pieces = b"", b""
-    for number, (bitmap, atlas_width, atlas) in enumerate(fonts):
-        mapping = bitmap.mapping()
-        if len(mapping) > WIDEST_FIELD or len(bitmap.glyphs) > WIDEST_FIELD:
-            raise Problem(f"font {number} has too many glyphs")
-        words = bitmap.words
-        records += FONT_FORM.pack(at, len(atlas), at + len(atlas), len(mapping), bitmap.replacement_index(), atlas_width, *words["cell"],
-                                  *words["spacing"], *words["baseline"], *words["strikethrough"], *words["underline"], 0)
-        pieces += atlas + mapping
-        at += len(atlas) + len(mapping)
-    for place, text, slot, font, style, layout in items:
-        records += ITEM_FORM.pack(*place, at, slot, len(text), font, *style, *layout, 0)
-        pieces += text.ljust(slot, b"\0")
-        at += slot
+    """Header, records, then each font's atlas and mapping and each item's slot, without gaps."""
     if len(fonts) > 255 or len(items) > WIDEST_FIELD:
         raise Problem("there are too many fonts or items")
-    return HEADER_FORM.pack(EDITION, *frame, len(fonts), len(items), 0, HEADER_SIZE, HEADER_SIZE + FONT_SIZE * len(fonts), at) + records + pieces
+    at = HEADER_SIZE + FONT_SIZE * len(fonts) + ITEM_SIZE * len(items)
+    records, pieces = [], []
+    for font in fonts:
+        records.append(FONT_FORM.pack(at, len(font.atlas), at + len(font.atlas), len(font.mapping), font.replacement, font.atlas_width, *font.numbers, 0))
+        pieces += [font.atlas, font.mapping]
+        at += len(font.atlas) + len(font.mapping)
+    for item in items:
+        records.append(ITEM_FORM.pack(*item.place, at, item.slot, len(item.text), item.font, *item.style, *item.layout, 0))
+        pieces.append(item.text.ljust(item.slot, b"\0"))
+        at += item.slot
+    header = HEADER_FORM.pack(EDITION, *frame, len(fonts), len(items), 0, HEADER_SIZE, HEADER_SIZE + FONT_SIZE * len(fonts), at)
+    return b"".join([header, *records, *pieces])

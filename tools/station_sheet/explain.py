@@ -1,4 +1,4 @@
-"""Why a sheet is refused: the number of document 01's table, the byte, and the cause. The tests run in document 01's order."""
+"""Why a sheet is refused: the number, the byte and the cause. The numbers, and the order of the tests, are those of docs/SHEET.md."""
 from collections import namedtuple
 
 from .layout import (ALIGNMENTS, BASELINES, EDITION, HEADER_SIZE, HEIGHT_KINDS, MOST_AREA, MOST_ATLAS_WIDTH, MOST_BYTES, MOST_CELL, MOST_FONTS,

@@ -1,4 +1,4 @@
-"""The layout of a sheet (document 01, Sheet): header, font records, item records, and the limits on their numbers."""
+"""The layout of a sheet (docs/SHEET.md): header, font records, item records, and the limits on their numbers."""
 import struct
 from collections import namedtuple
 

@@ -1,39 +1,22 @@
-"""Pages and their PNG pictures. The page itself is drawn by the program station_page, or read from a file."""
+"""Pages and their PNG pictures."""
+import re
 import struct
-import subprocess
 import zlib
-from pathlib import Path
 
 from . import Problem
 
-PROGRAM = Path(__file__).resolve().parents[2] / "target" / "bin" / "station_page"
 MOST_SCALE = 16
-
-
-def drawn_page(sheet):
-    """The page that station_page writes for a sheet that is accepted."""
-    if not PROGRAM.is_file():
-        raise Problem("target/bin/station_page is missing: make it with 'rt check station_page', or give a page with --page", 2)
-    try:
-        run = subprocess.run([PROGRAM], input=sheet, stdout=subprocess.PIPE, check=False)
-    except OSError as error:
-        raise Problem(f"target/bin/station_page: {error.strerror}", 2) from None
-    if run.returncode != 0:
-        raise Problem(f"target/bin/station_page ended with status {run.returncode}", 2)
-    return run.stdout
 
 
 def read_page(page, name):
     """The width, the height and the greys of a Netpbm P5 page of 255 levels."""
-    words = page.split(maxsplit=4)[:4]
-    try:
-        kind, width, height, levels = words[0], *(int(word) for word in words[1:])
-    except (ValueError, IndexError):
-        raise Problem(f"{name}: no page: a Netpbm P5 file starts with P5, width, height and 255") from None
-    head = len(page) - width * height if width > 0 and height > 0 else -1
-    if kind != b"P5" or levels != 255 or head < 0 or page[:head].split() != words:
-        raise Problem(f"{name}: no page: a Netpbm P5 file has P5, width, height and 255, then a grey for each pixel")
-    return width, height, page[head:]
+    head = re.match(rb"P5\s+([0-9]{1,4})\s+([0-9]{1,4})\s+255\s", page)
+    if head is None:
+        raise Problem(f"{name}: no page: a Netpbm P5 file starts with P5, width, height and 255")
+    width, height = int(head[1]), int(head[2])
+    if width * height == 0 or len(page) != head.end() + width * height:
+        raise Problem(f"{name}: no page: behind P5, width, height and 255 stands a grey for each pixel, and nothing else")
+    return width, height, page[head.end():]
 
 
 def png(width, height, greys, scale):

@@ -1,16 +1,14 @@
-"""A sheet's header, fonts and items, with the offset of each."""
-from .explain import explain
+"""A sheet's header, fonts and items, with the offset of each, and what a proved program measured of the items."""
 from .layout import (ALIGNMENTS, BASELINES, HEADER_SIZE, HEIGHT_KINDS, code_point, font_of, font_record, header_of, item_of, item_record,
                      run_length, spelled)
 
 MOST_RUNS = 12
 
 
-def show(sheet):
-    """The lines for a sheet, as far as its layout can be followed, and its refusal or None."""
-    refusal = explain(sheet)
+def show(sheet, refusal, measured):
+    """The lines for a sheet, as far as its layout can be followed. Measured has a box and a position for each item, or is None."""
     if len(sheet) < HEADER_SIZE:
-        return [], refusal
+        return []
     header = header_of(sheet)
     lines = [
         f"header at 0: edition {header.edition}, frame {header.width} by {header.height}, paper {header.paper}",
@@ -21,7 +19,10 @@ def show(sheet):
             lines += font_lines(sheet, number)
         for number in range(header.items):
             lines += item_lines(sheet, header, number)
-    return lines, refusal
+            if measured is not None:
+                left, top, width, height, x, y = measured[number]
+                lines.append(f"    measured box at ({left}, {top}), {width} by {height}; next position ({x}, {y})")
+    return lines
 
 
 def font_lines(sheet, number):

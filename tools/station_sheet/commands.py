@@ -1,0 +1,172 @@
+"""The commands of tools/sheet."""
+import argparse
+import os
+import re
+import sys
+
+from . import Problem, one_line
+from .c_header import c_header
+from .describe import describe
+from .description import read_description, sheet_of
+from .difference import differences
+from .explain import explain
+from .files import Files, input_name, standard_output
+from .layout import MOST_BYTES, header_of
+from .picture import MOST_SCALE, png, read_page
+from .programs import drawn_page, measured_items
+from .show import show
+from .warning import warnings
+
+MOST_PAGE = 1 << 20
+MOST_LINE = 600
+STATUSES = """exit status: 0 done, or the sheet is accepted, or two sheets are the same; 1 the sheet or the description is wrong, or two sheets differ;
+2 a wrong command, or a file that cannot be read or written, or for 'diff' a sheet that is refused. '-' in the place of a file is standard
+input or output. docs/REFUSALS.md says what to do about each refusal."""
+
+
+def say(text):
+    print(one_line(text), file=standard_output())
+
+
+def note(text):
+    """A line on standard error; of a very long one the middle is left out."""
+    line = one_line(text)
+    if sys.stderr is not None:
+        print(f"sheet: {line if len(line) <= MOST_LINE else line[:MOST_LINE // 2] + ' .. ' + line[-MOST_LINE // 3:]}", file=sys.stderr)
+
+
+def refused(path, refusal):
+    return f"{input_name(path)}: refused with {refusal.number} at byte {refusal.byte}: {refusal.cause}"
+
+
+def accepted_sheet(files, path, status=1):
+    """The bytes of a sheet that is accepted."""
+    sheet = files.read(path, MOST_BYTES)
+    refusal = explain(sheet)
+    if refusal is not None:
+        raise Problem(refused(path, refusal), status)
+    return sheet
+
+
+def run_new(arguments, files):
+    description = read_description(files, arguments.description)
+    name = input_name(arguments.description)
+    try:
+        sheet = sheet_of(description)
+        outputs = [(arguments.sheet, sheet)]
+        if arguments.header is not None:
+            outputs.append((arguments.header, c_header(description, sheet, arguments.header, arguments.description).encode("utf-8")))
+    except Problem as problem:
+        raise Problem(f"{name}: {problem}", problem.status) from None
+    files.write(outputs)
+    for line in warnings(description):
+        note(f"warning: {name}: {line}")
+    if "-" not in (arguments.sheet, arguments.header):
+        say(f"{arguments.sheet}: {len(sheet)} bytes")
+        for number, item in enumerate(description.items):
+            if item.name:
+                say(f"item {number}: {item.name}")
+
+
+def run_show(arguments, files):
+    sheet = files.read(arguments.sheet, MOST_BYTES)
+    refusal = explain(sheet)
+    measured = measured_items(sheet, header_of(sheet).items) if refusal is None else None
+    for line in show(sheet, refusal, measured):
+        say(line)
+    if refusal is not None:
+        raise Problem(refused(arguments.sheet, refusal))
+    if measured is None and header_of(sheet).items > 0:
+        note("target/bin/station_items is missing: 'rt check station_items' makes it, and 'show' then has the items' boxes and next positions")
+
+
+def run_explain(arguments, files):
+    refusal = explain(files.read(arguments.sheet, MOST_BYTES))
+    say(f"{input_name(arguments.sheet)}: accepted" if refusal is None else refused(arguments.sheet, refusal))
+    return 0 if refusal is None else 1
+
+
+def run_describe(arguments, files):
+    sheet = accepted_sheet(files, arguments.sheet)
+    name = one_line(os.path.basename(input_name(arguments.sheet)))
+    files.write([(arguments.description, describe(sheet, name).encode("utf-8", "backslashreplace"))])
+
+
+def run_diff(arguments, files):
+    sheets = [accepted_sheet(files, path, 2) for path in (arguments.first, arguments.second)]
+    lines = list(differences(*sheets))
+    for line in lines:
+        say(line)
+    return 1 if lines else 0
+
+
+def run_view(arguments, files):
+    sheet = accepted_sheet(files, arguments.sheet)
+    if arguments.page is None:
+        page, name = drawn_page(sheet), "station_page"
+    else:
+        page, name = files.read(arguments.page, MOST_PAGE), input_name(arguments.page)
+    width, height, greys = read_page(page, name)
+    if (width, height) != header_of(sheet)[1:3]:
+        raise Problem(f"{name}: the page is {width} by {height}, and the sheet's frame is not")
+    files.write([(arguments.png, png(width, height, greys, arguments.scale))])
+
+
+def scale(word):
+    if not re.fullmatch(r"[0-9]{1,4}", word) or not 1 <= int(word) <= MOST_SCALE:
+        raise argparse.ArgumentTypeError(f"a whole number from 1 to {MOST_SCALE} is needed")
+    return int(word)
+
+
+class Parser(argparse.ArgumentParser):
+    """A parser whose errors are one line."""
+
+    def error(self, message):
+        self.exit(2, f"sheet: {one_line(message)}; 'sheet --help' lists the commands\n")
+
+
+def parser():
+    top = Parser(prog="sheet", description="Builds, prints, explains, describes, compares and views station sheets.", epilog=STATUSES)
+    commands = top.add_subparsers(dest="command", required=True, metavar="COMMAND")
+
+    def command(name, run, text, *words):
+        added = commands.add_parser(name, help=text, description=text, epilog=STATUSES)
+        for word in words:
+            added.add_argument(word.split(".")[0].lower(), metavar=word)
+        added.set_defaults(run=run)
+        return added
+
+    new = command("new", run_new, "build a sheet from a description in TOML", "DESCRIPTION.toml", "SHEET")
+    new.add_argument("--header", metavar="ITEMS.h", help="write a C header too: frame size, item numbers by name, slot sizes")
+    command("show", run_show, "print a sheet's header, fonts and items with their offsets, and what station_items measures", "SHEET")
+    command("explain", run_explain, "say why a sheet is refused and at which byte, or that it is accepted", "SHEET")
+    back = command("describe", run_describe, "write the description of a sheet, from which 'new' builds the same bytes", "SHEET")
+    back.add_argument("description", metavar="DESCRIPTION.toml", nargs="?", default="-")
+    command("diff", run_diff, "print what differs between two sheets, by font, item and field", "FIRST", "SECOND")
+    view = command("view", run_view, "write a PNG of a sheet's page, drawn by target/bin/station_page", "SHEET", "PNG")
+    view.add_argument("--page", metavar="PAGE.pgm", help="take this page of the sheet, and draw nothing")
+    view.add_argument("--scale", metavar="N", type=scale, default=1, help=f"make each pixel N by N, 1 to {MOST_SCALE}")
+    return top
+
+
+def main(words):
+    """Runs a command; gives the exit status."""
+    arguments = parser().parse_args(words)
+    if sys.stdout is not None:
+        sys.stdout.reconfigure(errors="backslashreplace")
+    try:
+        status = arguments.run(arguments, Files()) or 0
+        if sys.stdout is not None:
+            sys.stdout.flush()
+        return status
+    except Problem as problem:
+        note(str(problem))
+        return problem.status
+    except OSError as error:
+        # standard output is closed or full: what it still holds goes nowhere
+        os.dup2(os.open(os.devnull, os.O_WRONLY), sys.stdout.fileno())
+        note(f"standard output: {error.strerror}")
+        return 2
+    except KeyboardInterrupt:
+        note("interrupted")
+        return 2
