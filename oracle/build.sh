@@ -1,7 +1,7 @@
 #!/usr/bin/env bash
 # Builds the oracle and its programs into target/oracle:
 #
-#   oracle/build.sh [FOLDER]
+#   [EMBEDDED_GRAPHICS=FOLDER] oracle/build.sh
 #
 # FOLDER has the listed files of embedded-graphics 0.8.2 (default: ../shared/docs/src). They are
 # compiled unchanged, over stand-ins for what they import; sums that overflow stop the program.
@@ -10,11 +10,10 @@ set -euo pipefail
 cd "$(dirname "$0")/.."
 . oracle/crates.sh
 
-folder=${1:-../shared/docs/src}
 out=target/oracle
 flags=(-O -C overflow-checks=on -C debug-assertions=on)
 
-check_and_copy "$folder" "$out"
+check_and_copy "$out"
 build_library "$out" "${flags[@]}"
 for program in driver compare list; do
   build_program "$out" "$program" "oracle/src/$program.rs" "${flags[@]}"

@@ -1,23 +1,47 @@
-# Functions that build the listed files and the oracle over them. Sourced by build.sh and by
-# bench/run.sh, with the repository's top as the working folder.
+# Functions that build the listed files and the oracle over them. Sourced by build.sh, bench/run.sh
+# and tests/oracle.sh, with the repository's top as the working folder.
 
-# check_and_copy FOLDER OUT: copies each listed file into OUT/src under its real path, beside the
-# stand-ins of the modules that are not listed, and checks its hash. A file may stand in FOLDER
-# under its path or under the flat name of a documents folder (src--src--text--text.rs.txt).
+# The folder of embedded-graphics 0.8.2, which has the listed files under the paths of hashes.sha256,
+# or under the flat names of a documents folder (src--src--text--text.rs.txt).
+folder=${EMBEDDED_GRAPHICS:-../shared/docs/src}
+
+# listed_file PATH: where a listed file stands in the folder; nothing if it is not there.
+listed_file() {
+  local name
+  for name in "$folder/src--${1//\//--}.txt" "$folder/$1"; do
+    if [ -f "$name" ]; then
+      echo "$name"
+      return
+    fi
+  done
+}
+
+# missing_file: the first listed file that is not in the folder; nothing if all are.
+missing_file() {
+  local hash path
+  while read -r hash path; do
+    if [ -z "$(listed_file "$path")" ]; then
+      echo "$path"
+      return
+    fi
+  done < oracle/hashes.sha256
+}
+
+# check_and_copy OUT: copies each listed file into OUT/src under its path, beside the stand-ins of the
+# modules that are not listed, and checks its hash.
 check_and_copy() {
-  local folder=$1 out=$2 hash path flat
+  local out=$1 hash path
+  path=$(missing_file)
+  if [ -n "$path" ]; then
+    echo "oracle: $path is not in $folder; EMBEDDED_GRAPHICS names the folder of the crate's files" >&2
+    return 1
+  fi
   rm -rf "$out/src"
   mkdir -p "$out/src"
   cp -r oracle/src/stand_ins/crate/. "$out/src/"
   while read -r hash path; do
-    flat="$folder/src--${path//\//--}.txt"
-    [ -f "$flat" ] || flat="$folder/$path"
-    if [ ! -f "$flat" ]; then
-      echo "oracle: $path is not in $folder" >&2
-      return 1
-    fi
     mkdir -p "$out/$(dirname "$path")"
-    cp "$flat" "$out/$path"
+    cp "$(listed_file "$path")" "$out/$path"
   done < oracle/hashes.sha256
   (cd "$out" && sha256sum --check --quiet) < oracle/hashes.sha256
 }

@@ -1,22 +1,29 @@
 #!/usr/bin/env bash
-# Tests of the oracle, of the stored list and of the bench, for a machine with rustc:
+# Tests of the oracle, of the stored list and of the bench, for a machine with rustc and the crate's files:
 #
-#   tests/oracle.sh
+#   [EMBEDDED_GRAPHICS=FOLDER] tests/oracle.sh
 #
 # Builds what is missing, compares the exported calls with the oracle on some cases, tries the known
 # mistakes, makes the stored list again, shows that its replay notices a changed byte, and compares
-# the bench's pages. The last line is 'N passed, M failed'.
+# the bench's pages. The last line is 'N passed, M failed', or one line that begins with 'skipped:' where
+# rustc or the files are not there. A folder that is named and has not the files is a failure.
 set -uo pipefail
 cd "$(dirname "$0")/.."
+. oracle/crates.sh
 
-folder=../shared/docs/src
 list=crates/oracle_list/stdin
-if ! command -v rustc > /dev/null; then
-  echo 'skipped: no rustc, so the oracle and the bench are not built'
-  exit 0
+missing=$(missing_file)
+if [ -n "$missing" ] && [ -n "${EMBEDDED_GRAPHICS:-}" ]; then
+  echo "FAILED: EMBEDDED_GRAPHICS names $folder, which has no $missing"
+  echo '0 passed, 1 failed'
+  exit 1
 fi
-if [ ! -d "$folder" ]; then
-  echo "skipped: no $folder, so the oracle and the bench are not built"
+reason=
+[ -z "$missing" ] || reason="the crate's files are not in $folder"
+command -v rustc > /dev/null || reason='there is no rustc'
+if [ -n "$reason" ]; then
+  echo "skipped: the comparison with embedded-graphics and the bench, since $reason;" \
+    "to run them: EMBEDDED_GRAPHICS=FOLDER tests/oracle.sh (README.md, \"The comparison with the crate\", says what to fetch)"
   exit 0
 fi
 
@@ -50,6 +57,20 @@ make_program() {
 
 make_list_again() {
   target/oracle/list > "$log/made_list" && cmp "$log/made_list" "$list"
+}
+
+# refuse_words: that compare takes no word that it does not know, and no value that it cannot read.
+refuse_words() {
+  local words
+  for words in 'case 5' 'seed' 'seed x' 'cases 5 seeds 2' 'sweeps maybe' 'with nobody' 'faults with plain' 'seed 1 seed 2' 'cases -1'; do
+    # shellcheck disable=SC2086
+    target/oracle/compare $words > "$log/words" 2>&1
+    if [ $? -ne 2 ] || [ "$(wc -l < "$log/words")" -ne 1 ]; then
+      echo "compare $words:"
+      head -n 5 "$log/words"
+      return 1
+    fi
+  done
 }
 
 # The number that two bytes of the list store.
@@ -89,14 +110,15 @@ notice_cut() {
 }
 
 run_test library make_library
-run_test build oracle/build.sh "$folder"
-bench/run.sh quick "$folder" > "$log/bench_output" 2>&1 &
+run_test build oracle/build.sh
+bench/run.sh quick > "$log/bench_output" 2>&1 &
 bench=$!
 run_test marked target/oracle/driver marked
 run_test list make_list_again
 run_test compare target/oracle/compare cases 2000
 run_test faults target/oracle/compare faults cases 600
 run_test program make_program
+run_test unknown_words refuse_words
 run_test changed_bytes notice_changed_bytes
 run_test cut_list notice_cut
 run_test bench wait "$bench"

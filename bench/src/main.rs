@@ -31,7 +31,7 @@ fn station() -> impl Station {
 
 #[cfg(not(library))]
 fn station() -> impl Station {
-    println!("libstation.a is not there: document 01's plain formulas stand in for it\n");
+    println!("libstation.a is not there: the formulas of docs/SHEET.md stand in for it\n");
     oracle::Calls(oracle::Plain)
 }
 
@@ -97,7 +97,7 @@ enum Clear {
 fn draw_pages(station: &dyn Station) {
     println!("a page, ns                             station     check     crate   ratio   without the check");
     use Clear::{AtOnce, ByRow};
-    let pages: [(&str, SheetModel, Clear); 6] = [
+    let pages: [(&str, SheetModel, Clear); 10] = [
         (
             "64 lines of 32, 320 x 200, background",
             pages::lines(1),
@@ -114,6 +114,14 @@ fn draw_pages(station: &dyn Station) {
             pages::last_characters(),
             AtOnce,
         ),
+        ("Greek, 464 in 3 ranges", pages::greek(false), AtOnce),
+        ("Greek, 464 listed singly", pages::greek(true), AtOnce),
+        (
+            "64 characters, end of 20,000 listed",
+            pages::last_listed(),
+            AtOnce,
+        ),
+        ("16,384 not listed, of 47,000", pages::unlisted(), AtOnce),
         ("empty, 320 x 200, crate by row", pages::empty(), ByRow),
         ("empty, 320 x 200, crate at once", pages::empty(), AtOnce),
     ];
@@ -153,12 +161,12 @@ fn by_turns<'a>(mut edit: impl FnMut(Edit) -> Area + 'a) -> impl FnMut() + 'a {
     }
 }
 
-fn edit_page(station: &dyn Station) {
+fn edit_page(station: &dyn Station, name: &str, make: fn() -> SheetModel) {
     const LINE: u32 = 31;
-    let model = pages::lines(1);
+    let model = make();
     let fresh = model.encode();
     let [mut sheet, mut alone] = [fresh.clone(), fresh.clone()];
-    let mut outside = pages::lines(1);
+    let mut outside = make();
     outside.items[LINE as usize].x = 2_000;
     let mut outside = outside.encode();
     let mut frame = vec![0; model.area()];
@@ -176,7 +184,7 @@ fn edit_page(station: &dyn Station) {
             black_box(station.check(black_box(&fresh)));
         },
     ]);
-    println!("\nan edit of one 32-character line of those 64, ns");
+    println!("\nan edit of one 32-character line of 64, {name}, ns");
     println!(
         "  edit {edited:.0}, fresh drawing {drawn:.0}: ratio {:.3}",
         edited / drawn
@@ -187,7 +195,7 @@ fn edit_page(station: &dyn Station) {
         100.0 * checked / drawn
     );
     println!(
-        "  the new text and its damage rectangle {:.0}, the ink boxes of all items {:.0}, painting {:.0}",
+        "  the new text and its damage rectangle {:.0}, telling the items apart {:.0}, painting {:.0}",
         on_sheet - checked,
         unseen - on_sheet,
         edited - unseen
@@ -271,6 +279,7 @@ fn singles(station: &dyn Station) {
 fn main() {
     let station = station();
     draw_pages(&station);
-    edit_page(&station);
+    edit_page(&station, "each apart from the others", || pages::lines(1));
+    edit_page(&station, "each over four others", pages::overlapping);
     singles(&station);
 }

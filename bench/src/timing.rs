@@ -5,8 +5,11 @@ use std::time::{Duration, Instant};
 /// How long one sample of a contender lasts, at least.
 const SAMPLE: Duration = Duration::from_micros(400);
 
-/// How often each contender is measured.
+/// How often each contender is measured, at most.
 const ROUNDS: usize = 60;
+
+/// After how long no new round is begun.
+const LONGEST: Duration = Duration::from_secs(20);
 
 /// What is measured.
 pub type Contender<'a> = &'a mut dyn FnMut();
@@ -36,7 +39,11 @@ pub fn best<const N: usize>(mut contenders: [Contender; N]) -> [f64; N] {
         }
     }
     let mut best = [f64::INFINITY; N];
-    for _ in 0..ROUNDS {
+    let start = Instant::now();
+    for round in 0..ROUNDS {
+        if round > 1 && start.elapsed() > LONGEST {
+            break;
+        }
         for at in 0..N {
             let elapsed = sample(contenders[at], times[at]);
             best[at] = best[at].min(elapsed.as_nanos() as f64 / f64::from(times[at]));

@@ -110,7 +110,7 @@ impl<P: Painter> Calls<P> {
     }
 
     // "inside document 01's rectangle stands the fresh drawing of the edited sheet, outside it each
-    // pixel keeps its grey" (demand 3).
+    // pixel keeps its grey" (demand 3, docs/DEMANDS.md).
     fn repaint(&self, sheet: &[u8], frame: &mut [u8], header: &Header, rect: &Rect) {
         let mut fresh = vec![0; frame.len()];
         self.0.draw(sheet, &mut fresh);

@@ -13,7 +13,7 @@ use crate::random::Random;
 pub enum Cases {
     /// Calls on one sheet.
     Calls(Case),
-    /// Demand 3's two runs: with a frame, and on the sheet alone.
+    /// Demand 3's two runs (docs/DEMANDS.md): with a frame, and on the sheet alone.
     Runs { patched: Case, fresh: Case },
 }
 

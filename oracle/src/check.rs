@@ -1,4 +1,4 @@
-//! The check: document 01's refusals 1 to 10, in the order of its table.
+//! The check: refusals 1 to 10 of docs/SHEET.md, Replies and refusals, in the order of its table.
 
 use crate::characters::decode_all;
 use crate::fields::{Font, Header, Item, HEADER, RECORD};

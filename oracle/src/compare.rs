@@ -9,9 +9,9 @@
 //! `sweeps no` leaves these out, as for a run under valgrind.
 //!
 //! NAME is who is tested: `library` (libstation.a, if it was there when this was built), `plain`
-//! (document 01's formulas, without the crate), `pixels` (the crate on a frame that paints pixel by
+//! (the formulas of docs/SHEET.md, without the crate), `pixels` (the crate on a frame that paints pixel by
 //! pixel) or a mistake of `faulty.rs`. Exit status 0: no difference; 1: a difference, printed with
-//! a small input.
+//! a small input; 2: a word that is not known.
 
 #[cfg(library)]
 mod host;
@@ -47,7 +47,7 @@ impl Comparison<'_> {
         )
     }
 
-    // Demand 3: both runs end with the same sheet, the same greys and the same replies.
+    // Demand 3 of docs/DEMANDS.md: both runs end with the same sheet, the same greys and the same replies.
     fn runs(&mut self, patched: &Case, fresh: &Case) -> Result<(), (Case, Difference)> {
         let first = self
             .case(patched)
@@ -132,13 +132,52 @@ impl Comparison<'_> {
     }
 }
 
-/// The words of the command line: a name, then its number.
-struct Words(Vec<String>);
+/// The words of the command line: names, each with its value.
+struct Words {
+    faults: bool,
+    pairs: Vec<(String, String)>,
+}
 
 impl Words {
+    /// The words as given, or what is wrong with them.
+    fn read(given: &[String]) -> Result<Self, String> {
+        let faults = given.first().is_some_and(|word| word == "faults");
+        let known: &[&str] = if faults {
+            &["seed", "cases"]
+        } else {
+            &["seed", "cases", "from", "sweeps", "with"]
+        };
+        let mut pairs: Vec<(String, String)> = Vec::new();
+        for pair in given[usize::from(faults)..].chunks(2) {
+            let name = pair[0].as_str();
+            if !known.contains(&name) {
+                return Err(format!("'{name}' is not known; the words are {known:?}"));
+            }
+            if pairs.iter().any(|(other, _)| other == name) {
+                return Err(format!("'{name}' is there twice"));
+            }
+            let Some(value) = pair.get(1) else {
+                return Err(format!("'{name}' needs a value"));
+            };
+            match name {
+                "sweeps" if value != "no" => return Err("'sweeps' can be 'no' only".into()),
+                "with" if tested(value).is_none() => {
+                    return Err(format!(
+                        "'{value}' is not known, or was not there when this was built"
+                    ))
+                }
+                "seed" | "cases" | "from" if value.parse::<u64>().is_err() => {
+                    return Err(format!("'{name}' needs a number, and not '{value}'"))
+                }
+                _ => pairs.push((name.into(), value.clone())),
+            }
+        }
+        Ok(Self { faults, pairs })
+    }
+
     fn after(&self, name: &str) -> Option<&str> {
-        let at = self.0.iter().position(|word| word == name)?;
-        self.0.get(at + 1).map(String::as_str)
+        let pair = self.pairs.iter().find(|(word, _)| word == name)?;
+        Some(pair.1.as_str())
     }
 
     fn number(&self, name: &str, otherwise: u64) -> u64 {
@@ -151,7 +190,7 @@ fn marked(tested: &dyn Station) -> bool {
     let marked = marked_lines(tested);
     let missed: Vec<_> = marked.iter().filter(|(_, met)| !met).collect();
     println!(
-        "marked lines of document 01: {} met",
+        "marked lines of docs/SHEET.md: {} met",
         marked.len() - missed.len()
     );
     for (line, _) in &missed {
@@ -250,30 +289,33 @@ fn find_faults(words: &Words) -> bool {
     good
 }
 
-fn tested(name: &str) -> Box<dyn Station> {
-    match name {
+/// Who is tested by this name, if it is known.
+fn tested(name: &str) -> Option<Box<dyn Station>> {
+    Some(match name {
         "plain" => Box::new(Calls(Plain)),
         "pixels" => Box::new(Calls(Crate { rows: false })),
         #[cfg(library)]
         "library" => Box::new(host::Library),
         _ => {
-            let fault = FAULTS.iter().find(|fault| format!("{fault:?}") == name);
-            Box::new(Faulty(*fault.unwrap_or_else(|| {
-                panic!("{name} is not known, or was not there when this was built")
-            })))
+            let fault = FAULTS.iter().find(|fault| format!("{fault:?}") == name)?;
+            Box::new(Faulty(*fault))
         }
-    }
+    })
 }
 
 fn main() {
-    let words = Words(std::env::args().skip(1).collect());
+    let given: Vec<String> = std::env::args().skip(1).collect();
+    let words = Words::read(&given).unwrap_or_else(|wrong| {
+        eprintln!("compare: {wrong}");
+        std::process::exit(2);
+    });
     crash::report_signals();
-    let good = if words.0.first().is_some_and(|word| word == "faults") {
+    let good = if words.faults {
         find_faults(&words)
     } else {
         let otherwise = if cfg!(library) { "library" } else { "plain" };
         let name = words.after("with").unwrap_or(otherwise);
-        compare_all(&words, name, &*tested(name))
+        compare_all(&words, name, &*tested(name).expect("a known name"))
     };
     std::process::exit(i32::from(!good));
 }

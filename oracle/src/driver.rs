@@ -7,7 +7,7 @@
 //!     driver index FONT NUMBER       the index
 //!     driver contains FONT NUMBER    1 or 0
 //!     driver time                    nanoseconds of a page, best of several
-//!     driver marked                  document 01's marked lines; reads nothing
+//!     driver marked                  the marked lines of docs/SHEET.md; reads nothing
 //!
 //! Of a refused call it writes `refused N` and a feed.
 
@@ -102,7 +102,7 @@ fn marked() -> bool {
             Box::new(Calls(Crate { rows: false })),
         ),
         ("the crate, by rows", Box::new(ORACLE)),
-        ("document 01", Box::new(Calls(Plain))),
+        ("the formulas", Box::new(Calls(Plain))),
     ];
     let mut good = true;
     for (name, station) in answers {

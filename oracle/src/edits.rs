@@ -1,4 +1,4 @@
-//! Rectangles, the damage rectangle and the edits on a sheet's bytes: document 01, section Drawing
+//! Rectangles, the damage rectangle and the edits on a sheet's bytes: docs/SHEET.md, Drawing
 //! and edits.
 
 use crate::characters::decode_all;

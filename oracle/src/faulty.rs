@@ -1,4 +1,4 @@
-//! Answers with one known mistake each, to see that the comparison finds it: document 01's traps,
+//! Answers with one known mistake each, to see that the comparison finds it: the traps of docs/SHEET.md,
 //! what its reviewer tries, and slips at the limits.
 
 use crate::calls::{Calls, Painter};
@@ -58,7 +58,7 @@ faults! {
     WalkerOffsetMovedToTheEnd,
 }
 
-/// Document 01's answers with one mistake.
+/// The formulas' answers with one mistake.
 pub struct Faulty(pub Fault);
 
 const GOOD: Calls<Plain> = Calls(Plain);

@@ -1,4 +1,4 @@
-//! The fields of a sheet: document 01, section Sheet.
+//! The fields of a sheet: docs/SHEET.md, Sheet.
 
 /// The header's length.
 pub const HEADER: usize = 24;

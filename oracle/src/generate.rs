@@ -8,7 +8,7 @@ use crate::random::Random;
 /// How large the sheets are.
 #[derive(Debug, Clone, Copy, PartialEq, Eq)]
 pub enum Scale {
-    /// Up to document 01's limits.
+    /// Up to the limits of docs/SHEET.md, Sheet.
     Full,
     /// Some hundred bytes, for a stored list.
     Small,

@@ -2,8 +2,8 @@
 //!
 //! Drawing, boxes and glyph choice are those of embedded-graphics 0.8.2, whose listed files are
 //! compiled unchanged (`sheet`). The sheet's layout, its check, the refusals, the edits and the
-//! damage rectangle are not in that crate; they are written here from document 01 alone. `plain`
-//! is document 01's drawing without the crate, so that the two can be held against each other.
+//! damage rectangle are not in that crate; they are written here from the rules of docs/SHEET.md alone. `plain`
+//! is the drawing by those rules without the crate, so that the two can be held against each other.
 //!
 //! The comparison stands on these: random sheets (`generate`, `mappings`, `malformed`), calls as
 //! values (`operation`), cases (`cases`, `sweeps`), buffers between guard pages (`guard`), the

@@ -153,7 +153,7 @@ fn put_case(file: &mut Vec<u8>, case: &Case, tally: &mut Tally) {
     }
 }
 
-/// Document 01's sample font with its marked texts, asked everything.
+/// The sample font of docs/SHEET.md with its marked texts, asked everything.
 fn marked_case() -> Case {
     let items = [
         sample_item(b"AB", [1, 9, 1, 5, 0, 0, 0, 0]),

@@ -1,4 +1,4 @@
-//! Random mappings, with every oddity that document 01 allows, and the characters to ask of them.
+//! Random mappings, with every oddity that docs/SHEET.md, Mapping, allows, and the characters to ask of them.
 
 use crate::characters::{decode_all, push};
 use crate::check::spelled;

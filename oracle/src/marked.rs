@@ -1,4 +1,4 @@
-//! Document 01's section 'Sample font and marked lines' and RFC 3629's examples, asked of anyone
+//! The marked lines of docs/SHEET.md, Worked examples, and RFC 3629's examples, asked of anyone
 //! who answers the calls.
 
 use crate::model::{FontModel, ItemModel, SheetModel};

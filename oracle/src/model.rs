@@ -78,7 +78,7 @@ impl SheetModel {
         self.width as usize * self.height as usize
     }
 
-    /// Its file, laid out as document 01 has it, whatever the fields hold.
+    /// Its file, laid out as docs/SHEET.md, Sheet, has it, whatever the fields hold.
     pub fn encode(&self) -> Vec<u8> {
         let items_at = HEADER + RECORD * self.fonts.len();
         let mut end = items_at + RECORD * self.items.len();

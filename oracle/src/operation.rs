@@ -177,7 +177,7 @@ impl Call {
     }
 }
 
-/// Bytes as document 01 writes them.
+/// Bytes as docs/SHEET.md writes them.
 pub fn hex(bytes: &[u8]) -> String {
     let pairs: Vec<String> = bytes.iter().map(|byte| format!("{byte:02X}")).collect();
     pairs.join(" ")

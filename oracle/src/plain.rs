@@ -1,4 +1,4 @@
-//! Document 01's drawing from its formulas alone, without the crate: the sections Mapping, Atlas,
+//! The drawing of docs/SHEET.md from its formulas alone, without the crate: the sections Mapping, Atlas,
 //! One line and Text. Held against the crate's own code, it shows where the two differ.
 
 use crate::calls::Painter;
@@ -6,7 +6,7 @@ use crate::characters::decode_all;
 use crate::edits::{join, Rect};
 use crate::fields::{Font, Header, Item};
 
-/// Document 01's drawing.
+/// The drawing of docs/SHEET.md.
 #[derive(Debug, Clone, Copy)]
 pub struct Plain;
 

@@ -46,7 +46,7 @@ pub enum Edit<'a> {
     Style(&'a [u8]),
 }
 
-/// Who answers the calls: the oracle, document 01's plain drawing, or the linked library.
+/// Who answers the calls: the oracle, the plain drawing of docs/SHEET.md, or the linked library.
 pub trait Station {
     fn check(&self, sheet: &[u8]) -> u32;
     fn index(&self, sheet: &[u8], font: u32, character: u32) -> Number;

@@ -28,7 +28,7 @@ fn small_sheets() -> Vec<SheetModel> {
 }
 
 impl SheetModel {
-    /// Document 01's page of 4 by 2, without fonts and items.
+    /// The page of 4 by 2 of docs/SHEET.md, Worked examples, without fonts and items.
     pub fn default_page() -> Self {
         Self {
             width: 4,

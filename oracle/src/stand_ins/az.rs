@@ -1,6 +1,6 @@
 //! Stand-in for the crate `az`, of which the listed files use `saturating_as` only.
 //!
-//! Document 01, Geometry: "`saturating_as` clips, which our limits never reach."
+//! docs/SHEET.md, Geometry: "`saturating_as` clips, which our limits never reach."
 
 /// A conversion that clips to the range of the wanted type.
 pub trait SaturatingCast<T> {

@@ -1,5 +1,5 @@
 //! Stand-in for the crate `embedded_graphics_core`: the types and traits that the listed files of
-//! embedded-graphics 0.8.2 import from it. Their meaning is document 01's section Geometry.
+//! embedded-graphics 0.8.2 import from it. Their meaning is docs/SHEET.md, Geometry.
 
 pub mod draw_target;
 pub mod geometry;

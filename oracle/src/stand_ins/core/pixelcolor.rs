@@ -33,7 +33,7 @@ impl PixelColor for BinaryColor {
     type Raw = RawU1;
 }
 
-// Document 01, Atlas: "1 is on."
+// docs/SHEET.md, Atlas: "1 is on."
 impl From<RawU1> for BinaryColor {
     fn from(raw: RawU1) -> Self {
         if raw.into_inner() == 0 {

@@ -1,0 +1,78 @@
+"""Tests of .ci/run and tests/oracle.sh in a clone that has no files of embedded-graphics: what is counted, skipped and said. A stand-in for
+rt proves nothing and takes no time."""
+import os
+import re
+import shutil
+import subprocess
+
+from tool_runs import ROOT, same
+
+KIT = re.search(r"^    (rattle-kit.*)$", (ROOT / "docs/KIT.md").read_text(encoding="utf-8"), re.M)[1]
+
+
+def script(path, text):
+    path.parent.mkdir(parents=True, exist_ok=True)
+    path.write_text(f"#!/usr/bin/env bash\n{text}\n", encoding="utf-8")
+    path.chmod(0o755)
+
+
+def make_clone(folder, kit=KIT, host="echo '2 passed, 0 failed'"):
+    """A clone below the folder, and a folder of programs: rt, and a rustc that is never run."""
+    clone = folder / "clone"
+    for name in (".ci/run", "docs/KIT.md", "tests/oracle.sh", "oracle/crates.sh", "oracle/hashes.sha256"):
+        (clone / name).parent.mkdir(parents=True, exist_ok=True)
+        shutil.copy(ROOT / name, clone / name)
+    script(clone / "tests/host.sh", host)
+    script(clone / "tests/paper.sh", "echo '7 passed, 0 failed'")
+    script(folder / "bin/rt", f"case $1 in version) echo '{kit}' ;; ci) echo '3 passed, 0 failed' ;; esac")
+    script(folder / "bin/rustc", "exit 1")
+    return clone
+
+
+def run(folder, *words, **variables):
+    """The exit status and the lines of a script of the clone."""
+    environment = {key: value for key, value in os.environ.items() if key != "EMBEDDED_GRAPHICS"}
+    environment |= {"PATH": f"{folder / 'bin'}:{environment['PATH']}", **variables}
+    done = subprocess.run(words, cwd=folder / "clone", env=environment, capture_output=True, check=False)
+    same("errors", done.stderr, b"")
+    return done.returncode, done.stdout.decode("utf-8").splitlines()
+
+
+def test_gate_without_crate(folder):
+    make_clone(folder)
+    status, lines = run(folder, ".ci/run")
+    same("status and last line", (status, lines[-1]), (0, "12 passed, 0 failed"))
+    same("the line before", (lines[-2].startswith("skipped: "), "EMBEDDED_GRAPHICS=FOLDER tests/oracle.sh" in lines[-2]), (True, True))
+    same("notices of the kit", [line for line in lines if line.startswith("notice: ")], [])
+
+
+def test_gate_with_another_kit(folder):
+    make_clone(folder, kit="rattle-kit-9 logic 0")
+    status, lines = run(folder, ".ci/run")
+    same("status and last line", (status, lines[-1]), (0, "12 passed, 0 failed"))
+    notice = f"notice: this is the kit 'rattle-kit-9 logic 0', and docs/KIT.md records '{KIT}'"
+    same("notices of the kit", [line for line in lines if line.startswith("notice: ")], [notice])
+
+
+def test_gate_counts(folder):
+    clone = make_clone(folder, host="echo '2 passed, 1 failed'; exit 1")
+    status, lines = run(folder, ".ci/run")
+    same("status and last line", (status, lines[-1]), (1, "12 passed, 1 failed"))
+    script(clone / "tests/host.sh", "exit 3")
+    status, lines = run(folder, ".ci/run")
+    same("a part without a count", (status, lines[-1]), (1, "10 passed, 1 failed"))
+
+
+def test_oracle_without_crate(folder):
+    """Without the files one line; with a folder that is named and has them not, a failure."""
+    clone = make_clone(folder)
+    status, lines = run(folder, "tests/oracle.sh")
+    same("status and lines", (status, len(lines), lines[0].startswith("skipped: "), "../shared/docs/src" in lines[0]), (0, 1, True, True))
+    status, lines = run(folder, "tests/oracle.sh", EMBEDDED_GRAPHICS="elsewhere")
+    same("a named folder", (status, lines[-1], "elsewhere, which has no src/" in lines[0]), (1, "0 passed, 1 failed", True))
+    for line in (ROOT / "oracle/hashes.sha256").read_text(encoding="ascii").splitlines()[1:]:
+        path = clone / "crate" / line.split()[1]
+        path.parent.mkdir(parents=True, exist_ok=True)
+        path.touch()
+    status, lines = run(folder, "tests/oracle.sh", EMBEDDED_GRAPHICS="crate")
+    same("a folder with a file less", (status, lines[0].endswith("which has no src/draw_target/mod.rs")), (1, True))
