@@ -7,7 +7,7 @@ use geometry::Rectangle;
 use geometry::Size;
 use numbers::wide;
 ghost use mathlib.Core.Path.{_≡_};
-ghost use Prim.Native.Nat.{_+_, _/_, _≤_, _<_};
+ghost use Prim.Native.Nat.{_+_, _/_, _≤_};
 ghost use lib.ListN.{length};
 ghost use Rattle.geometry.specs.Layer.{origin, mapIndexed, within, paint};
 ghost use Rattle.geometry.specs.Canvas.{Canvas, InFrame, onFrame, paintOn};

@@ -82,7 +82,7 @@ module _ (n code rest : ℕ) (e : n ≡ code) where
 -- ---- what a code of 0 tells
 
 pub header-in : (b : List ℕ) → Accepted b → 24 ≤ length b
-header-in b g = g .laid-out .headed .least
+header-in b g = g .laid-out .headed .length-least
 
 passed : (n code rest whole : ℕ) → whole ≡ orElse code rest → n ≡ whole → n ≡ 0 → (code ≡ 0) × (rest ≡ 0)
 passed n code rest whole w e z = orElse-zero code rest (sym w ∙ sym e ∙ z)

@@ -12,12 +12,12 @@ use mir.Facts.{toZ-ofZ}
 use borrow.Author.Tests.{lt-ltb}
 use Rattle.geometry.specs.declared.Point.{Point}
 use Rattle.geometry.specs.declared.Rectangle.{Rectangle}
-use Rattle.geometry.specs.Layer.{origin}
+use Rattle.geometry.specs.Layer.{origin, signed}
 use Rattle.sheet.specs.Edits.{newPlace, placeRefusal, refusal}
 use Rattle.edits.proofs.Signed.{read}
 use Rattle.calls.specs.declared.Position.{Position}
 use Rattle.calls.specs.declared.Box.{Box}
-use Rattle.calls.specs.Calls.{signed, positionReply, boxReply, editCode, onSheetCode}
+use Rattle.calls.specs.Calls.{positionReply, boxReply, editCode, onSheetCode}
 use Rattle.calls.specs.Replies.{PointFits, CornerFits}
 
 by-sign : (x : ℕ) → x < 2 ^ 31 → (t : Bool) → SFits w32 (cond t (negsuc (origin - suc x)) (pos (x - origin)))
@@ -25,10 +25,12 @@ by-sign x h true = record { sfits = omega arith }
 by-sign x h false = record { sfits = omega arith }
 
 signed-fits : (x : ℕ) → x < 2 ^ 31 → SFits w32 (signed x)
+unfolding signed
 signed-fits x h = by-sign x h (ltb x origin)
 
 module _ (x : ℕ) (h : x < 2 ^ 31) where
   difference : toZ w32 x -ℤ pos origin ≡ signed x
+  unfolding signed
   difference = simp (lt-ltb x (2 ^ 31) h)
 
   pub difference-fits : SFits w32 (toZ w32 x -ℤ pos origin)

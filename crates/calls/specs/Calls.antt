@@ -1,15 +1,15 @@
 -- The outcome of every exported call, for all inputs: its code, its reply and what it leaves of sheet, frame and output
 -- (docs/SHEET.md, Replies and refusals). Assumes nothing.
 -- To be believed: it says what a sheet means.
-use Prim.Native.Nat.{ℕ, _+_}
+use Prim.Native.Nat.{ℕ}
 use mathlib.Core.Bool.{Bool, true, false}
 use mathlib.Core.List.{List, _++_}
 use lib.Dec.{leb, ltb, eqb}
-use lib.IntN.{ℤ, pos, _-ℤ_}
+use lib.IntN.{pos}
 use lib.ListN.{length, drop}
 use Rattle.geometry.specs.declared.Point.{Point}
 use Rattle.geometry.specs.declared.Rectangle.{Rectangle}
-use Rattle.geometry.specs.Layer.{origin, paint}
+use Rattle.geometry.specs.Layer.{signed, paint}
 use Rattle.characters.specs.declared.Step as Characters
 use Rattle.characters.specs.declared.Step.the-variants.{Character, IllFormed, End}
 use Rattle.characters.specs.Refusal.{need, orElse, unlessRefused}
@@ -29,10 +29,6 @@ use Rattle.calls.specs.declared.Box.{Box}
 use Rattle.calls.specs.declared.Step.{Step}
 
 -- ---- replies: "A good call returns 0 with its position, box, index, ..", "A refused one returns its number with zeros"
-
--- a coordinate as a signed number of the frame's columns or rows
-abbrev pub signed : ℕ → ℤ
-signed x = pos x -ℤ pos origin
 
 unfoldable pub numberReply : ℕ → ℕ → Number
 numberReply code value = record { code = code; value = unlessRefused code value 0 }

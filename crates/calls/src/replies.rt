@@ -7,7 +7,8 @@ use geometry::Point;
 use geometry::Rectangle;
 ghost use mathlib.Core.Path.{_≡_};
 ghost use Prim.Native.Nat.{_<_, _^_};
-ghost use Rattle.calls.specs.Calls.{signed, positionReply, boxReply};
+ghost use Rattle.geometry.specs.Layer.{signed};
+ghost use Rattle.calls.specs.Calls.{positionReply, boxReply};
 ghost use Rattle.calls.specs.Replies.{refusedNumber, refusedPosition, refusedBox, PointFits, CornerFits};
 
 // The reply of a refused call that gives a number.

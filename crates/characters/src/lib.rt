@@ -1,3 +1,4 @@
+// RFC 3629: what stands at a cursor of a text, whether a text is well-formed, and its number of characters.
 use numbers::wide;
 ghost use mathlib.Core.Path.{_≡_};
 ghost use lib.ListN.{length};

@@ -26,6 +26,7 @@ use Rattle.drawing.specs.declared.items.Item.{Item}
 use Rattle.drawing.specs.Drawing.{orNone, cutToFrame, itemInk, damage}
 use Rattle.drawing.specs.Items.{ItemRead}
 use Rattle.drawing.specs.Changes.{changedInk}
+use Rattle.drawing.proofs.Readings.{item-ink}
 use Rattle.drawing.proofs.EditedInk.{ink-after-text, ink-after-place, ink-after-style}
 
 biased-near : (z : ℤ) → inRange z ≡ true → biased z ≤ 4_194_304
@@ -53,10 +54,6 @@ module _ (b : List ℕ) (n : ℕ) (i : Item) (stored : List ℕ) (r : ItemRead b
   unfolding item itemOf
   stored-is = w
 
-  stored-ink : itemInk b n ≡ inkBox (i .font) (textOf stored (i .position .x) (i .position .y) (i .«character_style») (i .«text_style»))
-  unfolding itemInk
-  stored-ink = rw (stored-is, r .font, r .position, r .character-style, r .text-style)
-
   -- ---- `change_damage`
 
   module _ (x y : ℕ) where
@@ -73,9 +70,6 @@ module _ (b : List ℕ) (n : ℕ) (i : Item) (stored : List ℕ) (r : ItemRead b
   -- ---- `text_damage`
 
   module _ (t : List ℕ) (g : EditAllowed b (newText n t)) where
-    pub stored-limits : TextLimits (length stored) (i .position .x) (i .position .y) (i .«text_style» .«line_height»)
-    stored-limits = rw stored-is (r .text-limits)
-
     pub new-limits : TextLimits (length t) (i .position .x) (i .position .y) (i .«text_style» .«line_height»)
     new-limits =
         let a = text-allowed b n t (g .allowed) in
@@ -87,7 +81,7 @@ module _ (b : List ℕ) (n : ℕ) (i : Item) (stored : List ℕ) (r : ItemRead b
         → area ≡ damage b (edited b (newText n t)) n
     unfolding damage
     text-damage before after area p q e =
-        let was : before ≡ itemInk b n = p ∙ sym stored-ink in
+        let was : before ≡ itemInk b n = item-ink b n i stored r w before p in
         let is : after ≡ itemInk (edited b (newText n t)) n = q ∙ rw (r .font, r .position, r .character-style, r .text-style) (sym (ink-after-text b n (g .accepted) t (g .allowed))) in
         rw (was, is) at e
 

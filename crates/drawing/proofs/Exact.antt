@@ -11,7 +11,7 @@ use lib.IntN.{ℤ, pos, negsuc, _-ℤ_, +ℤ-idl}
 use lib.ListN.{length, getD, length-take, length-drop}
 use borrow.Author.Tests.{ltb-true, ltb-false, lt-ltb, le-ltb}
 use Rattle.geometry.specs.declared.Rectangle.{Rectangle}
-use Rattle.geometry.specs.Layer.{origin, frameOf}
+use Rattle.geometry.specs.Layer.{origin, signed, frameOf}
 use Rattle.geometry.specs.Rectangle.{rectangle, covers, isEmpty, join, intersection}
 use Rattle.characters.specs.Utf8.{chars}
 use Rattle.characters.proofs.Folds.{length-chars}
@@ -21,7 +21,7 @@ use Rattle.line.specs.declared.MonoFont.{MonoFont}
 use Rattle.line.specs.Line.{characterWidth, characterHeight, spacing, baselineOffset, topEdge, measuredWidth}
 use Rattle.text.specs.Text.{Text}
 use Rattle.text.specs.Signed
-use Rattle.text.specs.Signed.{signed, signedPoint, SignedRectangle, signedRectangle, SignedText, signedText}
+use Rattle.text.specs.Signed.{signedPoint, SignedRectangle, signedRectangle, SignedText, signedText}
 use Rattle.text.proofs.Signed.{signed-add, signed-sub, signed-origin, signed-covers, signed-join, signed-intersection}
 use Rattle.text.proofs.Exact.{Room, Exact, text-exact, length-line}
 use Rattle.sheet.specs.Fields.{le16, part, coordinate, frameWidth, frameHeight, itemCount, itemAt, itemX, itemY, fontAt, fontNumber}

@@ -31,12 +31,12 @@ module _ (b : List ℕ) (g : Accepted b) (frame : List ℕ) (n : length frame �
   pub whole-canvas : Canvas (targetOf b (frameOf (frameWidth b) (frameHeight b))) (length frame)
   whole-canvas =
       let h = g .laid-out .headed in
-      record { size = mul-comm (frameHeight b) (frameWidth b) ∙ sym n; width = h .not-wide; height = h .not-high; left = omega arith; right = omega arith; top = omega arith; foot = omega arith }
+      record { size = mul-comm (frameHeight b) (frameWidth b) ∙ sym n; width = h .width-most; height = h .height-most; left = omega arith; right = omega arith; top = omega arith; foot = omega arith }
 
   -- a layer in the whole frame is the layer
   pub paint-whole : (f : Layer) → paintIn (frameWidth b) (frameOf (frameWidth b) (frameHeight b)) f frame ≡ paint (frameWidth b) f frame
   paint-whole f = paint-agree (frameWidth b) (pixelCount b) _ f frame frame n n (λ k l.
-      let w = g .laid-out .headed .wide in
+      let w = g .laid-out .headed .width-least in
       let c : k % frameWidth b < frameWidth b = mod-lt k w in
       let r : k / frameWidth b < frameHeight b = div-lt-iff-lt-mul w .1 (rw (mul-comm (frameHeight b) (frameWidth b)) l) in
       within-in (frameOf (frameWidth b) (frameHeight b)) f (origin + k % frameWidth b) (origin + k / frameWidth b) (getD frame k 0) (omega arith))
@@ -123,4 +123,4 @@ pub damage-canvas : (b b′ : List ℕ) (n : ℕ) (frame : List ℕ) → Accepte
 unfolding damage cutToFrame
 damage-canvas b b′ n frame g l =
     let h = g .laid-out .headed in
-    or-none-canvas (frameWidth b) (frameHeight b) (length frame) (join (itemInk b n) (itemInk b′ n)) (mul-comm (frameHeight b) (frameWidth b) ∙ sym l) (h .not-wide) (h .not-high)
+    or-none-canvas (frameWidth b) (frameHeight b) (length frame) (join (itemInk b n) (itemInk b′ n)) (mul-comm (frameHeight b) (frameWidth b) ∙ sym l) (h .width-most) (h .height-most)

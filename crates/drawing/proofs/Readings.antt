@@ -18,7 +18,7 @@ use Rattle.line.specs.Line.{fontOf, baselineOffset, whitespace}
 use Rattle.line.specs.Limits.{FontLimits}
 use Rattle.text.specs.declared.TextStyle.{TextStyle}
 use Rattle.text.specs.Text.{textOf, layer, next, boundingBox, inkBox}
-use Rattle.text.specs.Limits.{heightValue, TextLimits}
+use Rattle.text.specs.Limits.{TextLimits}
 use Rattle.sheet.specs.Fields.{part, itemAt, fontAt, fontNumber, atlasBytes, mappingBytes, textBytes, frameWidth}
 use Rattle.sheet.specs.Requires.{FontListed, ItemListed}
 use Rattle.records.specs.Records.{monoFont, font, monoTextStyle, textStyle, itemOf, item, itemFont}
@@ -61,39 +61,39 @@ module _ (b : List ℕ) (n : ℕ) where
       let fits = g .accepted .font-fits k (g .listed) in
       record { well = rw e (fits .mapping-well); spelled = rw e (fits .mapping-short) }
 
-  module _ (i : Item) (words : List ℕ) (r : ItemRead b n i) (w : words ≡ textBytes b (itemAt b n)) where
-    pub item-limits : TextLimits (length words) (i .position .x) (i .position .y) (i .«text_style» .«line_height»)
+  module _ (i : Item) (text : List ℕ) (r : ItemRead b n i) (w : text ≡ textBytes b (itemAt b n)) where
+    pub item-limits : TextLimits (length text) (i .position .x) (i .position .y) (i .«text_style» .«line_height»)
     unfolding item itemOf
     item-limits = rw w (r .text-limits)
 
     -- what was read is the item
-    item-is : textOf words (i .position .x) (i .position .y) (i .«character_style») (i .«text_style») ≡ item b n
+    item-is : textOf text (i .position .x) (i .position .y) (i .«character_style») (i .«text_style») ≡ item b n
     unfolding item itemOf
     item-is = rw (w, r .position, r .character-style, r .text-style)
 
-    pub item-next : (p : Point) → p ≡ next (i .font) (textOf words (i .position .x) (i .position .y) (i .«character_style») (i .«text_style»)) → p ≡ next (itemFont b n .mono) (item b n)
+    pub item-next : (p : Point) → p ≡ next (i .font) (textOf text (i .position .x) (i .position .y) (i .«character_style») (i .«text_style»)) → p ≡ next (itemFont b n .mono) (item b n)
     item-next p e = rw (item-is, r .font) at e
 
-    pub item-ink : (a : Rectangle) → a ≡ inkBox (i .font) (textOf words (i .position .x) (i .position .y) (i .«character_style») (i .«text_style»)) → a ≡ itemInk b n
+    pub item-ink : (a : Rectangle) → a ≡ inkBox (i .font) (textOf text (i .position .x) (i .position .y) (i .«character_style») (i .«text_style»)) → a ≡ itemInk b n
     unfolding itemInk
     item-ink a e = rw (item-is, r .font) at e
 
-    pub item-box : (a : Rectangle) → a ≡ boundingBox (i .font) (textOf words (i .position .x) (i .position .y) (i .«character_style») (i .«text_style»)) → a ≡ boundingBox (itemFont b n .mono) (item b n)
+    pub item-box : (a : Rectangle) → a ≡ boundingBox (i .font) (textOf text (i .position .x) (i .position .y) (i .«character_style») (i .«text_style»)) → a ≡ boundingBox (itemFont b n .mono) (item b n)
     item-box a e = rw (item-is, r .font) at e
 
     pub item-painted : (t : DrawTarget) (clip : Rectangle) (atlas mapping xs ys : List ℕ) → t ≡ targetOf b clip
         → atlas ≡ atlasBytes b (fontAt (i .«font_number»)) → mapping ≡ mappingBytes b (fontAt (i .«font_number»))
-        → ys ≡ paintOn t (layer (fontOf (i .font) atlas mapping) (textOf words (i .position .x) (i .position .y) (i .«character_style») (i .«text_style»))) xs
+        → ys ≡ paintOn t (layer (fontOf (i .font) atlas mapping) (textOf text (i .position .x) (i .position .y) (i .«character_style») (i .«text_style»))) xs
         → ys ≡ paintIn (frameWidth b) clip (itemLayer b n) xs
     unfolding itemLayer itemFont font
     item-painted t clip atlas mapping xs ys et ea em e = rw (item-is, et, ea, em, r .font, r .font-number) at e
 
 -- ---- what of an item tells where it stands
 
-module _ (b : List ℕ) (n k : ℕ) (f : MonoFont) (p : Point) (t : TextStyle) (words : List ℕ) (g : ItemListed b n)
+module _ (b : List ℕ) (n k : ℕ) (f : MonoFont) (p : Point) (t : TextStyle) (text : List ℕ) (g : ItemListed b n)
     (ek : k ≡ fontNumber b (itemAt b n)) (ef : f ≡ monoFont b (fontAt k)) (limits : FontLimits f)
     (ep : p ≡ itemOf b (itemAt b n) .position) (px : p .x ≤ 4_194_304) (py : p .y ≤ 4_194_304)
-    (et : t ≡ textStyle b (itemAt b n)) (ew : words ≡ textBytes b (itemAt b n)) where
+    (et : t ≡ textStyle b (itemAt b n)) (ew : text ≡ textBytes b (itemAt b n)) where
   layout : Item
   layout = record { «font_number» = k; font = f; position = p; «character_style» = monoTextStyle b (itemAt b n); «text_style» = t }
 
@@ -101,15 +101,15 @@ module _ (b : List ℕ) (n k : ℕ) (f : MonoFont) (p : Point) (t : TextStyle) (
   unfolding layout
   layout-read = item-read b n k f p (monoTextStyle b (itemAt b n)) t g ek ef limits ep px py refl et
 
-  pub layout-limits : TextLimits (length words) (p .x) (p .y) (t .«line_height»)
+  pub layout-limits : TextLimits (length text) (p .x) (p .y) (t .«line_height»)
   unfolding layout
-  layout-limits = item-limits b n layout words layout-read ew
+  layout-limits = item-limits b n layout text layout-read ew
 
   -- what holds in any style holds in the item's
-  pub layout-apart : (r : Bool) (clip : Rectangle) → (r ≡ true → (s : MonoTextStyle) → isEmpty (intersection (inkBox f (textOf words (p .x) (p .y) s t)) clip) ≡ true) → r ≡ true
+  pub layout-apart : (r : Bool) (clip : Rectangle) → (r ≡ true → (s : MonoTextStyle) → isEmpty (intersection (inkBox f (textOf text (p .x) (p .y) s t)) clip) ≡ true) → r ≡ true
       → isEmpty (intersection (itemInk b n) clip) ≡ true
   unfolding layout
-  layout-apart r clip h e = rw (← item-ink b n layout words layout-read ew _ refl) (h e (monoTextStyle b (itemAt b n)))
+  layout-apart r clip h e = rw (← item-ink b n layout text layout-read ew _ refl) (h e (monoTextStyle b (itemAt b n)))
 
 -- ---- the frame as it is read
 

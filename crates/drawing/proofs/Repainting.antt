@@ -127,7 +127,7 @@ module _ (b : List ℕ) (e : Edit) (g : Accepted b) (a : refusal b e ≡ 0) wher
   -- a pixel of the frame has a column and a row in it
   pixel-in : (k : ℕ) → k < pixelCount b → (k % frameWidth b < frameWidth b) × (k / frameWidth b < frameHeight b)
   pixel-in k l =
-      let w = g .laid-out .headed .wide in
+      let w = g .laid-out .headed .width-least in
       (mod-lt k w, div-lt-iff-lt-mul w .1 (rw (mul-comm (frameHeight b) (frameWidth b)) l))
 
   -- the old page, repainted in the damage rectangle, is the new page

@@ -4,7 +4,8 @@ use geometry::Rectangle;
 use geometry::numbers::minus;
 ghost use mathlib.Core.Path.{_≡_};
 ghost use mathlib.Core.Bool.{true};
-ghost use Rattle.geometry.specs.Rectangle.{EndsFit, isEmpty, intersection};
+ghost use Rattle.geometry.specs.Rectangle.{isEmpty, intersection};
+ghost use Rattle.geometry.specs.Canvas.{EndsFit};
 ghost use Rattle.sheet.specs.Requires.{ItemListed};
 ghost use Rattle.drawing.specs.Drawing.{itemInk};
 
@@ -37,7 +38,7 @@ fn is_apart(sheet: &[u8], clip: Rectangle, n: u32) -> bool
 }
 
 // Whether the clip does not meet an item's ink box; "no" may be said of one that it does not meet. The box is found only where the item's rows
-// and columns leave it open, and where the clip has not the column of its x, in which every line stands that is not empty. Of a clip that is the
+// and columns leave it open, and where the clip has not the column of its x, in or near which nearly every line stands. Of a clip that is the
 // whole frame nothing is asked.
 pub fn is_missed(sheet: &[u8], clip: Rectangle, whole: bool, n: u32) -> bool
     requires { ⌜ ItemListed (now sheet) n ⌝ }

@@ -4,7 +4,7 @@ use mathlib.Core.Path.{_≡_, sym, _∙_, ap}
 use mathlib.Core.Bool.{true}
 use mathlib.Core.List.{List, _++_, append-assoc}
 use lib.IntN.{ℤ}
-use lib.ListN.{length, getD, set, take, drop, replicate, length-take, length-drop, List·getD-eq-default}
+use lib.ListN.{length, getD, set, take, drop, replicate, length-take, length-drop}
 use lib.Seq.{sets, sets-eq, length-sets, ext-getD, drop-drop, getD-set-same, getD-set-other}
 use native.Mathlib.Numerals.{add-one}
 use native.Mathlib.Omega.{arith}
@@ -24,9 +24,6 @@ unfolding le16
 two-bytes s i n = rw add-one
 
 -- ---- bytes, then zeros
-
-pub past-end : (s : List ℕ) (i : ℕ) → length s ≤ i → 0 ≡ getD s i 0
-past-end s i h = sym (List·getD-eq-default s 0 h)
 
 module _ (t : List ℕ) where
   pub padded-more : (s : List ℕ) (i v : ℕ) → i < length s → v ≡ getD t i 0 → ((k : ℕ) → k < i → getD s k 0 ≡ getD t k 0) → (k : ℕ) → k < i + 1 → getD (set s i v) k 0 ≡ getD t k 0

@@ -9,7 +9,8 @@ use mathlib.Core.Logic.{_⊎_, inl, inr}
 use lib.Dec.{eqb}
 use borrow.Author.Tests.{leb-true, ltb-true, le-leb, lt-ltb, ne-eqb, eqb-false}
 use Rattle.geometry.specs.declared.Rectangle.{Rectangle}
-use Rattle.geometry.specs.Rectangle.{EndsFit, covers, isEmpty, envelope, join, joins, intersection}
+use Rattle.geometry.specs.Canvas.{EndsFit}
+use Rattle.geometry.specs.Rectangle.{covers, isEmpty, envelope, join, joins, intersection}
 
 -- a place in a rectangle
 pub record In (a : Rectangle) (c r : ℕ) : Type 0 where

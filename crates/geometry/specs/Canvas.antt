@@ -1,6 +1,6 @@
 -- The frame as a draw target, the rectangles on it, and what the painters require of both. Assumes nothing.
 -- Serves contracts: nothing here has to be believed.
-use Prim.Native.Nat.{ℕ, _+_, _-_, _*_, _≤_}
+use Prim.Native.Nat.{ℕ, _+_, _-_, _*_, _^_, _≤_, _<_}
 use mathlib.Core.Path.{_≡_}
 use mathlib.Core.List.{List}
 use Rattle.geometry.specs.declared.Rectangle.{Rectangle}
@@ -20,6 +20,11 @@ fromCorner a = record { left = a .left - origin; top = a .top - origin; width = 
 -- a layer painted on a draw target: in its area only
 abbrev pub paintOn : DrawTarget → Layer → List ℕ → List ℕ
 paintOn t f frame = paintIn (t .width) (t .«clip_area») f frame
+
+-- a rectangle whose right edge and foot fit 32 bits
+pub record EndsFit (a : Rectangle) : Type 0 where
+  pub right : a .left + a .width < 2 ^ 32
+  pub foot : a .top + a .height < 2 ^ 32
 
 -- a draw target of n greys: sides of at most 512, and an area that lies in it
 pub record Canvas (t : DrawTarget) (n : ℕ) : Type 0 where

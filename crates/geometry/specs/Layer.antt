@@ -3,6 +3,7 @@
 use Prim.Native.Nat.{ℕ, suc, _+_, _/_, _%_}
 use mathlib.Core.Bool.{cond}
 use mathlib.Core.List.{List, [], _∷_}
+use lib.IntN.{ℤ, pos, _-ℤ_}
 use Rattle.geometry.specs.declared.Rectangle.{Rectangle}
 use Rattle.geometry.specs.declared.OptionalGrey.{OptionalGrey}
 use Rattle.geometry.specs.declared.OptionalGrey.the-variants.{Unset, Set}
@@ -11,6 +12,10 @@ use Rattle.geometry.specs.Rectangle.{rectangle, covers}
 -- the frame's column 0 and row 0 stand at `origin`, so that each position that the limits allow is a natural number
 abbrev pub origin : ℕ
 origin = 2_097_152
+
+-- the signed number of a coordinate: 0 for the frame's first column or row
+unfoldable pub signed : ℕ → ℤ
+signed x = pos x -ℤ pos origin
 
 -- a layer: from a column, a row and the grey before, the grey after
 abbrev pub Layer : Type 0

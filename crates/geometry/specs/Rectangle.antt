@@ -1,6 +1,6 @@
 -- Rectangles: what one covers, and how two make one (docs/SHEET.md, Geometry). Assumes nothing.
 -- To be believed: it says what a sheet means.
-use Prim.Native.Nat.{ℕ, _+_, _-_, _^_, _<_, min, max}
+use Prim.Native.Nat.{ℕ, _+_, _-_, min, max}
 use mathlib.Core.Bool.{Bool, cond, _&&_, _||_}
 use mathlib.Core.List.{List, [], _∷_}
 use lib.Dec.{leb, ltb, eqb}
@@ -43,8 +43,3 @@ intersection a b = record {
   width = min (a .left + a .width) (b .left + b .width) - max (a .left) (b .left);
   height = min (a .top + a .height) (b .top + b .height) - max (a .top) (b .top);
 }
-
--- a rectangle whose right edge and foot fit 32 bits
-pub record EndsFit (a : Rectangle) : Type 0 where
-  pub right : a .left + a .width < 2 ^ 32
-  pub foot : a .top + a .height < 2 ^ 32

@@ -7,9 +7,9 @@ use numbers::minus;
 ghost use mathlib.Core.Path.{_≡_};
 ghost use Prim.Native.Nat.{_+_, _-_, min, max};
 ghost use lib.ListN.{length, replicate};
-ghost use Rattle.geometry.specs.Rectangle.{EndsFit, isEmpty, envelope, join, intersection};
+ghost use Rattle.geometry.specs.Rectangle.{isEmpty, envelope, join, intersection};
 ghost use Rattle.geometry.specs.Layer.{paint, filled};
-ghost use Rattle.geometry.specs.Canvas.{Canvas, StartsOnFrame, InFrame, fromCorner, onFrame, paintOn};
+ghost use Rattle.geometry.specs.Canvas.{EndsFit, Canvas, StartsOnFrame, InFrame, fromCorner, onFrame, paintOn};
 
 pub mod numbers;
 

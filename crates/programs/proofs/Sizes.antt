@@ -14,7 +14,7 @@ use Rattle.characters.specs.Refusal.{unlessRefused}
 
 module _ (b : List ℕ) (n : ℕ) (e : n ≡ check b) (z : n ≡ 0) where
   pub header-in : 24 ≤ length b
-  header-in = accepted b (sym e ∙ z) .laid-out .headed .least
+  header-in = accepted b (sym e ∙ z) .laid-out .headed .length-least
 
   module _ (w h : ℕ) (ew : w ≡ frameWidth b) (eh : h ≡ frameHeight b) where
     pub pixels-in : w * h ≤ 65_536

@@ -35,15 +35,15 @@ headed b h =
     let h₃ = need-zero (all (frameTests f)) 2 (need (all (countTests f)) 4 0) (h₂ .1) in
     let h₄ = need-zero (all (countTests f)) 3 0 (h₃ .1) in
     record {
-      least = leb-true _ _ (all-true (lengthTests f) (h₁ .0) 0);
-      most = leb-true _ _ (all-true (lengthTests f) (h₁ .0) 1);
-      whole-length = eqb-true _ _ (all-true (lengthTests f) (h₁ .0) 2);
-      zero-field = eqb-true _ _ (all-true (lengthTests f) (h₁ .0) 3);
       edition-one = eqb-true _ _ (h₂ .0);
-      wide = leb-true _ _ (all-true (frameTests f) (h₃ .0) 0);
-      not-wide = leb-true _ _ (all-true (frameTests f) (h₃ .0) 1);
-      high = leb-true _ _ (all-true (frameTests f) (h₃ .0) 2);
-      not-high = leb-true _ _ (all-true (frameTests f) (h₃ .0) 3);
+      zero-field = eqb-true _ _ (all-true (lengthTests f) (h₁ .0) 3);
+      whole-length = eqb-true _ _ (all-true (lengthTests f) (h₁ .0) 2);
+      length-least = leb-true _ _ (all-true (lengthTests f) (h₁ .0) 0);
+      length-most = leb-true _ _ (all-true (lengthTests f) (h₁ .0) 1);
+      width-least = leb-true _ _ (all-true (frameTests f) (h₃ .0) 0);
+      width-most = leb-true _ _ (all-true (frameTests f) (h₃ .0) 1);
+      height-least = leb-true _ _ (all-true (frameTests f) (h₃ .0) 2);
+      height-most = leb-true _ _ (all-true (frameTests f) (h₃ .0) 3);
       area = leb-true _ _ (all-true (frameTests f) (h₃ .0) 4);
       fonts-few = leb-true _ _ (all-true (countTests f) (h₄ .0) 0);
       items-few = leb-true _ _ (all-true (countTests f) (h₄ .0) 1);
@@ -52,15 +52,15 @@ headed b h =
 header-passes : (b : List ℕ) → Headed b → checkHeader b ≡ 0
 unfolding checkHeader headerRefusal headerFields
 header-passes b h = rw (
-  le-leb _ _ (h .least),
-  le-leb _ _ (h .most),
+  le-leb _ _ (h .length-least),
+  le-leb _ _ (h .length-most),
   eq-eqb _ _ (h .whole-length),
   eq-eqb _ _ (h .zero-field),
   eq-eqb _ _ (h .edition-one),
-  le-leb _ _ (h .wide),
-  le-leb _ _ (h .not-wide),
-  le-leb _ _ (h .high),
-  le-leb _ _ (h .not-high),
+  le-leb _ _ (h .width-least),
+  le-leb _ _ (h .width-most),
+  le-leb _ _ (h .height-least),
+  le-leb _ _ (h .height-most),
   le-leb _ _ (h .area),
   le-leb _ _ (h .fonts-few),
   le-leb _ _ (h .items-few),

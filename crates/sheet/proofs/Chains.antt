@@ -135,8 +135,8 @@ module _ (f : ℕ → List Piece) (n k p : ℕ) (e : Reach) (h : k < n) (i : rea
   pub pieces-more : (q : ℕ) → reach (f k) p ≡ To q → reach (piecesOf f (n - (k + 1)) (k + 1)) q ≡ e
   pieces-more q r = rw add-one (rw r at unrolled)
 
-  pub pieces-off : reach (f k) p ≡ Misplaced → Misplaced ≡ e
-  pieces-off r = rw r at unrolled
+  pub pieces-misplaced : reach (f k) p ≡ Misplaced → Misplaced ≡ e
+  pieces-misplaced r = rw r at unrolled
 
 -- ---- pieces of records that read the same
 

@@ -21,23 +21,23 @@ left-suc n k h = omega arith
 -- ---- the pieces of a font, and of an item
 
 module _ (b : List ℕ) (k p o atlas : ℕ) (eo : o ≡ fontAt k) (ea : atlas ≡ le32At b o) where
-  pub atlas-off : (atlas ≡ p → ⊥) → reach (fontPieces b k) p ≡ Misplaced
+  pub atlas-misplaced : (atlas ≡ p → ⊥) → reach (fontPieces b k) p ≡ Misplaced
   unfolding fontPieces reach
-  atlas-off t = rw (← eo, ← ea, ne-eqb _ _ t)
+  atlas-misplaced t = rw (← eo, ← ea, ne-eqb _ _ t)
 
   module _ (t : atlas ≡ p) (size mapping : ℕ) (es : size ≡ le32At b (o + 4)) (em : mapping ≡ le32At b (o + 8)) where
-    pub mapping-off : (mapping ≡ p + size → ⊥) → reach (fontPieces b k) p ≡ Misplaced
+    pub mapping-misplaced : (mapping ≡ p + size → ⊥) → reach (fontPieces b k) p ≡ Misplaced
     unfolding fontPieces reach
-    mapping-off u = rw (← eo, ← ea, ← es, ← em, eq-eqb _ _ t, ne-eqb _ _ u)
+    mapping-misplaced u = rw (← eo, ← ea, ← es, ← em, eq-eqb _ _ t, ne-eqb _ _ u)
 
     pub font-to : (length : ℕ) → length ≡ le16At b (o + 12) → mapping ≡ p + size → reach (fontPieces b k) p ≡ To (p + size + length)
     unfolding fontPieces reach
     font-to length el u = rw (← eo, ← ea, ← es, ← em, ← el, eq-eqb _ _ t, eq-eqb _ _ u)
 
 module _ (b : List ℕ) (k p o slot : ℕ) (eo : o ≡ itemAt b k) (es : slot ≡ le32At b (o + 4)) where
-  pub slot-off : (slot ≡ p → ⊥) → reach (slotPieces b k) p ≡ Misplaced
+  pub slot-misplaced : (slot ≡ p → ⊥) → reach (slotPieces b k) p ≡ Misplaced
   unfolding slotPieces reach
-  slot-off t = rw (← eo, ← es, ne-eqb _ _ t)
+  slot-misplaced t = rw (← eo, ← es, ne-eqb _ _ t)
 
   pub slot-to : (size : ℕ) → size ≡ le16At b (o + 8) → slot ≡ p → reach (slotPieces b k) p ≡ To (p + size)
   unfolding slotPieces reach

@@ -33,8 +33,8 @@ module _ (b : List ℕ) (p : ℕ) (r : Reach) (e : r ≡ reach (piecesOf (fontPi
   unfolding pieces
   whole = rw e (reach-append (piecesOf (fontPieces b) (fontCount b) 0) (piecesOf (slotPieces b) (itemCount b) 0) p)
 
-  pub fonts-off : r ≡ Misplaced → Misplaced ≡ reach (pieces b) p
-  fonts-off h = rw (whole, h)
+  pub fonts-misplaced : r ≡ Misplaced → Misplaced ≡ reach (pieces b) p
+  fonts-misplaced h = rw (whole, h)
 
   pub slots-from : (q : ℕ) (s : Reach) → r ≡ To q → s ≡ reach (piecesOf (slotPieces b) (itemCount b) 0) q → s ≡ reach (pieces b) p
   slots-from q s h k = rw (whole, h) k

@@ -94,9 +94,6 @@ coordinate-biased (negsuc n) h =
     let l = ltb-true n 32_768 h in
     rw (le-ltb ((origin - suc n) % 65_536) 32_768 (omega arith)) (omega arith)
 
-pub place-read : (z : ℤ) (l : List ℕ) (o : ℕ) → inRange z ≡ true → o + 2 ≤ length l → coordinate (le16At (sets l o (le16 (biased z))) o) ≡ biased z
-place-read z l o h r = rw (le16At-sets l o (biased z) r) (coordinate-biased z h)
-
 -- ---- a new style
 
 module _ (b : List ℕ) (o : ℕ) (t : List ℕ) (eight : length t ≡ 8) where

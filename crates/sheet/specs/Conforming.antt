@@ -12,20 +12,20 @@ use Rattle.sheet.specs.Pieces.{Piece, pieces}
 
 -- "Header, 24 bytes"
 pub record Headed (b : List ℕ) : Type 0 where
-  -- "file 24 to 65,536 bytes"
-  pub least : 24 ≤ length b
-  pub most : length b ≤ 65_536
-  -- "whole length (4)"
-  pub whole-length : Fields.wholeLength b ≡ length b
-  -- "zero (2)"
-  pub zero-field : Fields.headerZero b ≡ 0
   -- "edition 1 (2 bytes)"
   pub edition-one : Fields.edition b ≡ 1
+  -- "zero (2)"
+  pub zero-field : Fields.headerZero b ≡ 0
+  -- "whole length (4)"
+  pub whole-length : Fields.wholeLength b ≡ length b
+  -- "file 24 to 65,536 bytes"
+  pub length-least : 24 ≤ length b
+  pub length-most : length b ≤ 65_536
   -- "frame sides 1 to 512, area ≤ 65,536"
-  pub wide : 1 ≤ Fields.frameWidth b
-  pub not-wide : Fields.frameWidth b ≤ 512
-  pub high : 1 ≤ Fields.frameHeight b
-  pub not-high : Fields.frameHeight b ≤ 512
+  pub width-least : 1 ≤ Fields.frameWidth b
+  pub width-most : Fields.frameWidth b ≤ 512
+  pub height-least : 1 ≤ Fields.frameHeight b
+  pub height-most : Fields.frameHeight b ≤ 512
   pub area : Fields.frameWidth b * Fields.frameHeight b ≤ 65_536
   -- "F ≤ 4, I ≤ 64"
   pub fonts-few : Fields.fontCount b ≤ 4

@@ -95,7 +95,7 @@ module _ (b frame output : List ℕ) (n w h : ℕ) (e : n ≡ pageCode b frame o
   pub page-room : PageFits w h frame output
   page-room =
       let g = page-accepted b frame n z output e .laid-out .headed in
-      record { width = omega (arith, g .not-wide); height = omega (arith, g .not-high); room = rw same-page (page-in b frame n z output e) }
+      record { width = omega (arith, g .width-most); height = omega (arith, g .height-most); room = rw same-page (page-in b frame n z output e) }
 
   module _ (len : ℕ) (el : len ≡ length (pageHeader w h ++ frame)) where
     pub page-short : Fits w32 len

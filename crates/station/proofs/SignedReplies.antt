@@ -8,7 +8,7 @@ use lib.ListN.{length}
 use borrow.Author.Tests.{ltb-true}
 use Rattle.geometry.specs.declared.Point.{Point}
 use Rattle.geometry.specs.declared.Rectangle.{Rectangle}
-use Rattle.text.specs.Signed.{signed, SignedPoint, signedPoint, SignedRectangle, signedRectangle}
+use Rattle.text.specs.Signed.{SignedPoint, signedPoint, SignedRectangle, signedRectangle}
 use Rattle.sheet.specs.Fields.{itemCount}
 use Rattle.sheet.specs.Check.{check}
 use Rattle.sheet.specs.Edits.{Edit}
@@ -23,12 +23,12 @@ use Rattle.station.specs.SignedReplies.{positionOf, boxOf}
 -- ---- a reply, if a code of 0 makes its numbers exact
 
 position-exact : (code : ℕ) (p : Point) (s : SignedPoint) → (code ≡ 0 → signedPoint p ≡ s) → positionReply code p ≡ positionOf code s
-unfolding positionReply signed
+unfolding positionReply
 position-exact zero p s e = ap (positionOf 0) (e refl)
 position-exact (suc code) p s e = refl
 
 box-exact : (code : ℕ) (a : Rectangle) (s : SignedRectangle) → (code ≡ 0 → signedRectangle a ≡ s) → boxReply code a ≡ boxOf code s
-unfolding boxReply signed
+unfolding boxReply
 box-exact zero a s e = ap (boxOf 0) (e refl)
 box-exact (suc code) a s e = refl
 

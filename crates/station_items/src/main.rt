@@ -1,12 +1,13 @@
 // Reads a sheet from standard input; writes a line for each item: its number, the left, top, width and height of its measured box, and the
-// x and y of its next position. For a sheet that is refused it writes `refused`, its number and a feed.
+// x and y of its next position. For a sheet that is refused it writes `refused`, its number and a feed. Where not all lines were written,
+// standard error says so.
+use libc::STDERR_FILENO;
 use libc::STDIN_FILENO;
 use libc::STDOUT_FILENO;
 use programs::pixel_count;
 use programs::write_number;
 use programs::write_refused;
 use programs::write_signed;
-use programs::write_word;
 use sheet::fields::item_count;
 use station::Box;
 use station::Position;
@@ -26,12 +27,19 @@ fn write_position(next: Position) {
     write_signed(next.y);
 }
 
-// Writes an item's line.
-fn write_item(sheet: &[u8], frame: &mut [u8], item: u32) {
+// Writes an item's line; gives whether its end was written.
+fn write_item(sheet: &[u8], frame: &mut [u8], item: u32) -> bool {
     io::print_decimal(STDOUT_FILENO, item as u64);
     write_box(station_bounding_box(sheet, item));
     write_position(station_draw_item(sheet, frame, item));
-    write_word(b"\n");
+    io::write_all(STDOUT_FILENO, b"\n")
+}
+
+// Says on standard error that a line was not written, if that is so.
+fn tell_unless(written: bool) {
+    if !written {
+        io::write_all(STDERR_FILENO, b"items not written\n");
+    }
 }
 
 // Writes a line for each item of a sheet, or its refusal.
@@ -42,11 +50,13 @@ fn write_items(sheet: &[u8], frame: &mut [u8]) {
         return;
     }
     let count = item_count(sheet);
+    let mut written = true;
     let mut item = 0;
     while item < count {
-        write_item(sheet, frame, item);
+        written = write_item(sheet, frame, item) & written;
         item += 1;
     }
+    tell_unless(written);
 }
 
 // A file of more than 65,536 bytes is read past that limit, and so refused.

@@ -12,6 +12,7 @@ use lib.Signed.{quotZ}
 use lib.ListN.{length}
 use Rattle.geometry.specs.declared.Point.{Point}
 use Rattle.geometry.specs.declared.Rectangle.{Rectangle}
+use Rattle.geometry.specs.Layer.{signed}
 use Rattle.geometry.specs.Rectangle.{rectangle, joins}
 use Rattle.characters.specs.Utf8.{chars}
 use Rattle.line.specs.declared.DecorationDimensions.{DecorationDimensions}
@@ -22,7 +23,7 @@ use Rattle.text.specs.declared.Alignment.{Alignment}
 use Rattle.text.specs.declared.Alignment.the-variants.{Left, Center, Right}
 use Rattle.text.specs.Text.{Text, PlacedLine, before, lines, alignedStart, lineHeight, placeLine, placeLines, placedLines, lineTop, lineNext, lastNext, next, nowhere, measuredBox, boundingBox, lineInk, inkBox}
 use Rattle.text.specs.Signed
-use Rattle.text.specs.Signed.{signed, SignedPoint, signedPoint, SignedRectangle, signedRectangle, SignedText, signedText, SignedLine, signedLine}
+use Rattle.text.specs.Signed.{SignedPoint, signedPoint, SignedRectangle, signedRectangle, SignedText, signedText, SignedLine, signedLine}
 use Rattle.text.proofs.Signed.{signed-add, signed-sub, signed-joins}
 
 -- ---- where a line starts

@@ -100,8 +100,8 @@ pub length-line-from : (text : List ℕ) (from : ℕ) → length (lineFrom text 
 unfolding lineFrom
 length-line-from text from = length-take-le (lineLength (drop from text)) (drop from text) (length-to-feed (drop from text))
 
-pub end-of-line : (text row : List ℕ) (from : ℕ) → row ≡ lineFrom text from → from + length row ≡ from + lineLength (drop from text)
-end-of-line text row from e = ap (λ (n : ℕ). from + n) (ap length e ∙ length-line-from text from)
+pub end-of-line : (text line : List ℕ) (from : ℕ) → line ≡ lineFrom text from → from + length line ≡ from + lineLength (drop from text)
+end-of-line text line from e = ap (λ (n : ℕ). from + n) (ap length e ∙ length-line-from text from)
 
 -- ---- `line_of`: `text` is the lent slice that the source names
 

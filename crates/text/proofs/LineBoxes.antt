@@ -7,7 +7,8 @@ use mathlib.Core.List.{List, map}
 use lib.ListN.{length, drop}
 use Rattle.geometry.specs.declared.Point.{Point}
 use Rattle.geometry.specs.declared.Rectangle.{Rectangle}
-use Rattle.geometry.specs.Rectangle.{EndsFit, rectangle, join, joins}
+use Rattle.geometry.specs.Rectangle.{rectangle, join, joins}
+use Rattle.geometry.specs.Canvas.{EndsFit}
 use Rattle.geometry.proofs.Rectangles.{ends-fit-join}
 use Rattle.characters.specs.Utf8.{chars}
 use Rattle.line.specs.declared.MonoFont.{MonoFont}
@@ -24,12 +25,12 @@ use Rattle.text.proofs.Places.{LineStart, start-next, start-near, lengt
 
 -- ---- `line_box`: `corner` is the line's corner and `shown` its bytes without the return
 
-module _ (ink : Bool) (m : MonoFont) (s : MonoTextStyle) (t : TextStyle) (x y : ℕ) (row shown : List ℕ) (corner : Point) (r : Rectangle) (e : shown ≡ withoutReturn row) (d : corner ≡ lineCorner m t row x y) where
-  pub line-ink-box : ink ≡ true → r ≡ Line.inkBox m s (length (chars shown)) (corner .x) (corner .y) → r ≡ lineBox ink m (textOf row x y s t) (placeLine m (textOf row x y s t) row y)
+module _ (ink : Bool) (m : MonoFont) (s : MonoTextStyle) (t : TextStyle) (x y : ℕ) (line shown : List ℕ) (corner : Point) (r : Rectangle) (e : shown ≡ withoutReturn line) (d : corner ≡ lineCorner m t line x y) where
+  pub line-ink-box : ink ≡ true → r ≡ Line.inkBox m s (length (chars shown)) (corner .x) (corner .y) → r ≡ lineBox ink m (textOf line x y s t) (placeLine m (textOf line x y s t) line y)
   unfolding lineBox lineInk placeLine lineCorner
   line-ink-box h p = rw h (rw (d, e) at p)
 
-  pub line-measured-box : ink ≡ false → r ≡ Line.measuredBox m s (length (chars shown)) (corner .x) (corner .y) → r ≡ lineBox ink m (textOf row x y s t) (placeLine m (textOf row x y s t) row y)
+  pub line-measured-box : ink ≡ false → r ≡ Line.measuredBox m s (length (chars shown)) (corner .x) (corner .y) → r ≡ lineBox ink m (textOf line x y s t) (placeLine m (textOf line x y s t) line y)
   unfolding lineBox measuredBox placeLine lineCorner
   line-measured-box h p = rw h (rw (d, e) at p)
 
@@ -43,17 +44,17 @@ measured-height-small m s limits = go (Line.isNone (s .«underline_color»))
     go true = omega arith
     go false = omega arith
 
-pub box-ends : (ink : Bool) (m : MonoFont) (s : MonoTextStyle) (t : TextStyle) (x y : ℕ) (row : List ℕ) (r : Rectangle) → FontLimits m → LineLimits (length row) x y
-    → r ≡ lineBox ink m (textOf row x y s t) (placeLine m (textOf row x y s t) row y) → EndsFit r
+pub box-ends : (ink : Bool) (m : MonoFont) (s : MonoTextStyle) (t : TextStyle) (x y : ℕ) (line : List ℕ) (r : Rectangle) → FontLimits m → LineLimits (length line) x y
+    → r ≡ lineBox ink m (textOf line x y s t) (placeLine m (textOf line x y s t) line y) → EndsFit r
 unfolding lineBox lineInk measuredBox placeLine Line.inkBox Line.inkHeight Line.measuredBox Line.measuredWidth
-box-ends ink m s t x y row r font limits e = rw e (go ink)
+box-ends ink m s t x y line r font limits e = rw e (go ink)
   where
-    wide : length (chars (withoutReturn row)) * (Line.characterWidth m + Line.spacing m) ≤ 8_388_608
-    wide = width-small m font (withoutReturn row) (omega (arith, length-without-return row)) (length (chars (withoutReturn row))) refl
+    wide : length (chars (withoutReturn line)) * (Line.characterWidth m + Line.spacing m) ≤ 8_388_608
+    wide = width-small m font (withoutReturn line) (omega (arith, length-without-return line)) (length (chars (withoutReturn line))) refl
 
-    go : (b : Bool) → EndsFit (cond b (lineInk m (textOf row x y s t) (placeLine m (textOf row x y s t) row y)) (measuredBox m (textOf row x y s t) (placeLine m (textOf row x y s t) row y)))
-    go true = omega (arith, wide, advance-width m s (length (chars (withoutReturn row))), start-near (t .alignment) x (Line.measuredWidth m (length (chars row))))
-    go false = omega (arith, wide, measured-height-small m s font, start-near (t .alignment) x (Line.measuredWidth m (length (chars row))))
+    go : (b : Bool) → EndsFit (cond b (lineInk m (textOf line x y s t) (placeLine m (textOf line x y s t) line y)) (measuredBox m (textOf line x y s t) (placeLine m (textOf line x y s t) line y)))
+    go true = omega (arith, wide, advance-width m s (length (chars (withoutReturn line))), start-near (t .alignment) x (Line.measuredWidth m (length (chars line))))
+    go false = omega (arith, wide, measured-height-small m s font, start-near (t .alignment) x (Line.measuredWidth m (length (chars line))))
 
 -- ---- `lines_box`
 
@@ -75,27 +76,27 @@ module _ (ink : Bool) (m : MonoFont) (text : List ℕ) (x y : ℕ) (s : MonoText
   unfolding linesBox placedLines
   boxes-start limits = record { joined = refl; start = omega arith; ends = omega arith }
 
-  module _ (from at : ℕ) (area : Rectangle) (row : List ℕ) (shown next : Rectangle) (j : BoxesJoined from at area) (e : row ≡ lineFrom text from)
-      (p : shown ≡ lineBox ink m (textOf row x at s ts) (placeLine m (textOf row x at s ts) row at)) (q : next ≡ join area shown) where
+  module _ (from at : ℕ) (area : Rectangle) (line : List ℕ) (shown next : Rectangle) (j : BoxesJoined from at area) (e : line ≡ lineFrom text from)
+      (p : shown ≡ lineBox ink m (textOf line x at s ts) (placeLine m (textOf line x at s ts) line at)) (q : next ≡ join area shown) where
     one-joined : next ≡ join area (lineBox ink m whole (placeLine m whole (lineFrom text from) at))
     unfolding lineBox lineInk measuredBox placeLine
     one-joined = q ∙ ap (join area) (rw e at p)
 
-    pub boxes-last : (size : ℕ) → size ≡ length text → size ≤ from + length row → next ≡ linesBox ink m whole
+    pub boxes-last : (size : ℕ) → size ≡ length text → size ≤ from + length line → next ≡ linesBox ink m whole
     unfolding placeLines joins
-    boxes-last size z h = one-joined ∙ sym (rw (lines-last text from (from + length row) (j .start .reach) (end-of-line text row from e) (omega arith))) ∙ j .joined
+    boxes-last size z h = one-joined ∙ sym (rw (lines-last text from (from + length line) (j .start .reach) (end-of-line text line from e) (omega arith))) ∙ j .joined
 
     pub boxes-end : FontLimits m → TextLimits (length text) x y (ts .«line_height») → EndsFit next
-    boxes-end font limits = rw q (ends-fit-join area shown (j .ends) (box-ends ink m s ts x at row shown font (line-limits text row x y from at (ts .«line_height») limits (j .start) e) p))
+    boxes-end font limits = rw q (ends-fit-join area shown (j .ends) (box-ends ink m s ts x at line shown font (line-limits text line x y from at (ts .«line_height») limits (j .start) e) p))
 
-    pub boxes-step : (size height : ℕ) → FontLimits m → TextLimits (length text) x y (ts .«line_height») → height ≡ lineHeight m (ts .«line_height») → size ≡ length text → from + length row < size
-        → BoxesJoined (from + length row + 1) (at + height) next
+    pub boxes-step : (size height : ℕ) → FontLimits m → TextLimits (length text) x y (ts .«line_height») → height ≡ lineHeight m (ts .«line_height») → size ≡ length text → from + length line < size
+        → BoxesJoined (from + length line + 1) (at + height) next
     unfolding placeLines joins
     boxes-step size height font limits h z less =
-        let d = end-of-line text row from e in
+        let d = end-of-line text line from e in
         record {
-          joined = rw (h, one-joined) (sym (rw (lines-more text from (from + length row) (j .start .reach) d (omega arith))) ∙ j .joined);
-          start = start-next text x y from (from + length row) at height m (ts .«line_height») font limits (j .start) h d (omega arith);
+          joined = rw (h, one-joined) (sym (rw (lines-more text from (from + length line) (j .start .reach) d (omega arith))) ∙ j .joined);
+          start = start-next text x y from (from + length line) at height m (ts .«line_height») font limits (j .start) h d (omega arith);
           ends = boxes-end font limits;
         }
 

@@ -94,8 +94,8 @@ pub record LineStart (text : List ℕ) (y from at : ℕ) : Type 0 where
   pub reach : from ≤ length text
   pub low : at ≤ y + 1_000 * from
 
-pub line-limits : (text row : List ℕ) (x y from at : ℕ) (height : LineHeight) → TextLimits (length text) x y height → LineStart text y from at → row ≡ lineFrom text from → LineLimits (length row) x at
-line-limits text row x y from at height limits start e = record {
+pub line-limits : (text line : List ℕ) (x y from at : ℕ) (height : LineHeight) → TextLimits (length text) x y height → LineStart text y from at → line ≡ lineFrom text from → LineLimits (length line) x at
+line-limits text line x y from at height limits start e = record {
   line-short = omega (arith, ap length e, length-line-from text from, length-to-feed (drop from text), length-drop from text);
   near-x = limits .near-x;
   near-y = omega arith;

@@ -10,10 +10,10 @@ use lib.IntN.{ℤ, pos, negsuc, negℤ, _+ℤ_, _-ℤ_, +ℤ-assoc, +ℤ-comm, +
 use lib.Signed.{leZ, ltZ}
 use borrow.Author.Tests.{leb-true, leb-false, ltb-true, ltb-false, le-leb, lt-leb, lt-ltb, le-ltb}
 use Rattle.geometry.specs.declared.Rectangle.{Rectangle}
-use Rattle.geometry.specs.Layer.{origin}
+use Rattle.geometry.specs.Layer.{origin, signed}
 use Rattle.geometry.specs.Rectangle.{covers, isEmpty, envelope, join, joins, intersection}
 use Rattle.text.specs.Signed
-use Rattle.text.specs.Signed.{signed, toNat, minZ, maxZ, SignedRectangle, signedRectangle}
+use Rattle.text.specs.Signed.{toNat, minZ, maxZ, SignedRectangle, signedRectangle}
 
 -- ---- numbers
 

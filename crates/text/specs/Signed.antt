@@ -11,7 +11,7 @@ use lib.ListN.{length}
 use lib.Signed.{leZ, ltZ, quotZ}
 use Rattle.geometry.specs.declared.Point.{Point}
 use Rattle.geometry.specs.declared.Rectangle.{Rectangle}
-use Rattle.geometry.specs.Layer.{origin}
+use Rattle.geometry.specs.Layer.{signed}
 use Rattle.characters.specs.Utf8.{chars}
 use Rattle.line.specs.declared.Baseline.{Baseline}
 use Rattle.line.specs.declared.DecorationDimensions.{DecorationDimensions}
@@ -24,10 +24,6 @@ use Rattle.text.specs.declared.TextStyle.{TextStyle}
 use Rattle.text.specs.Text.{Text, PlacedLine, lines, withoutReturn, lineHeight}
 
 -- ---- numbers
-
--- the signed number of a coordinate
-unfoldable pub signed : ℕ → ℤ
-signed x = pos x -ℤ pos origin
 
 abbrev pub minZ : ℤ → ℤ → ℤ
 minZ a b = cond (leZ a b) a b

@@ -18,7 +18,7 @@ ghost use Rattle.characters.specs.Utf8.{chars};
 ghost use Rattle.mapping.specs.Entries.{WithinLimit};
 ghost use Rattle.line.specs.Line.{fontOf, measuredWidth};
 ghost use Rattle.line.specs.Limits.{FontLimits};
-ghost use Rattle.text.specs.Text.{textOf, laidOut, withoutReturn, alignedStart, lineHeight, placeLine, lineLayer, layer, lineNext, next};
+ghost use Rattle.text.specs.Text.{laidOut, withoutReturn, alignedStart, lineHeight, placeLine, lineLayer, layer, lineNext, next};
 ghost use Rattle.text.specs.Lines.{lineLength, lineCorner};
 ghost use Rattle.text.specs.Limits.{TextLimits, HeightLimit, StartLimits, LineLimits};
 

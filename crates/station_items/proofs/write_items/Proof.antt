@@ -8,10 +8,10 @@ use Rattle.station_items.proofs.write_items.Statement.{statement}
 use Rattle.station_items.proofs.write_items.Tie as tie
 
 abbrev Inv-loop : tie.InvT-loop
-Inv-loop sheet frame₀ code count item₀ frame item = (length frame ≡ length frame₀) × (item ≤ count)
+Inv-loop sheet frame₀ code count written₀ item₀ frame written item = (length frame ≡ length frame₀) × (item ≤ count)
 
 abbrev μ-loop : tie.MeasureT-loop
-μ-loop sheet frame₀ code count item₀ frame item = count - item
+μ-loop sheet frame₀ code count written₀ item₀ frame written item = count - item
 
 station-check-requires : tie.Need-station-check-requires Inv-loop μ-loop
 station-check-requires c κs = search needs
@@ -40,6 +40,9 @@ loop-less c = search needs
 loop-again : tie.Need-loop-again Inv-loop μ-loop
 loop-again c = (search needs, search needs)
 
+tell-unless-requires : tie.Need-tell-unless-requires Inv-loop μ-loop
+tell-unless-requires c κs = search needs
+
 same-length : tie.Need-same-length Inv-loop μ-loop
 same-length c = search needs
 
@@ -61,5 +64,6 @@ write-items-spec =
     add-item
     loop-less
     loop-again
+    tell-unless-requires
     same-length
     returns-2)

@@ -5,8 +5,8 @@ use borrow.Author.Needs.{needs}
 use Rattle.sheet.specs.Fields.{fontCount}
 use Rattle.sheet.specs.Pieces.{fontPieces, piecesOf}
 use Rattle.sheet.specs.Check.{reach}
-use Rattle.sheet.proofs.Chains.{pieces-start, pieces-more, pieces-off, pieces-done}
-use Rattle.sheet.proofs.Loops.{atlas-off, mapping-off, font-to}
+use Rattle.sheet.proofs.Chains.{pieces-start, pieces-more, pieces-misplaced, pieces-done}
+use Rattle.sheet.proofs.Loops.{atlas-misplaced, mapping-misplaced, font-to}
 use Rattle.sheet.proofs.pieces.fonts_end.Statement.{statement}
 use Rattle.sheet.proofs.pieces.fonts_end.Tie as tie
 
@@ -47,13 +47,13 @@ u16-at-requires : tie.Need-u16-at-requires Inv-loop μ-loop
 u16-at-requires c κs = search needs
 
 returns : tie.Need-returns Inv-loop μ-loop
-returns c = search (pieces-off, atlas-off)
+returns c = search (pieces-misplaced, atlas-misplaced)
 
 add-if2 : tie.Need-add-if2 Inv-loop μ-loop
 add-if2 c = search needs
 
 returns-2 : tie.Need-returns-2 Inv-loop μ-loop
-returns-2 c = search (pieces-off, mapping-off)
+returns-2 c = search (pieces-misplaced, mapping-misplaced)
 
 add-p : tie.Need-add-p Inv-loop μ-loop
 add-p c = search needs

@@ -1,6 +1,6 @@
 -- What the fonts reach is where the slots start. Assumes nothing.
 use borrow.Author.Needs.{needs}
-use Rattle.sheet.proofs.Outcomes.{fonts-off, slots-from}
+use Rattle.sheet.proofs.Outcomes.{fonts-misplaced, slots-from}
 use Rattle.sheet.proofs.pieces.pieces_end.Statement.{statement}
 use Rattle.sheet.proofs.pieces.pieces_end.Tie as tie
 
@@ -14,7 +14,7 @@ enum-told : tie.Need-enum-told
 enum-told c = search needs
 
 returns : tie.Need-returns
-returns c = search fonts-off
+returns c = search fonts-misplaced
 
 slots-end-requires : tie.Need-slots-end-requires
 slots-end-requires c κs = search needs

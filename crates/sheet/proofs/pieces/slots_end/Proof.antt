@@ -5,8 +5,8 @@ use borrow.Author.Needs.{needs}
 use Rattle.sheet.specs.Fields.{itemCount}
 use Rattle.sheet.specs.Pieces.{slotPieces, piecesOf}
 use Rattle.sheet.specs.Check.{reach}
-use Rattle.sheet.proofs.Chains.{pieces-start, pieces-more, pieces-off, pieces-done}
-use Rattle.sheet.proofs.Loops.{slot-off, slot-to}
+use Rattle.sheet.proofs.Chains.{pieces-start, pieces-more, pieces-misplaced, pieces-done}
+use Rattle.sheet.proofs.Loops.{slot-misplaced, slot-to}
 use Rattle.sheet.proofs.pieces.slots_end.Statement.{statement}
 use Rattle.sheet.proofs.pieces.slots_end.Tie as tie
 
@@ -38,7 +38,7 @@ u16-at-requires : tie.Need-u16-at-requires Inv-loop μ-loop
 u16-at-requires c κs = search needs
 
 returns : tie.Need-returns Inv-loop μ-loop
-returns c = search (pieces-off, slot-off)
+returns c = search (pieces-misplaced, slot-misplaced)
 
 add-p : tie.Need-add-p Inv-loop μ-loop
 add-p c = search needs
