@@ -13,7 +13,7 @@ import subprocess
 import sys
 import zlib
 
-from tool_runs import ROOT, SAMPLES, Run, expect_error, run_tests, same, sheet_program, sheet_tool
+from tool_runs import ROOT, SAMPLES, Run, expect_error, programs_of, run_tests, same, sheet_program, sheet_tool
 
 import described
 import explained
@@ -22,7 +22,7 @@ import guide
 import must_fail
 import stored_sheets
 import wrong_inputs
-from station_sheet import layout, programs
+from station_sheet import layout
 
 
 def page_of(sheet):
@@ -60,21 +60,6 @@ def test_ascii_is_complete(_):
 
 # ---- show
 
-class Measured:
-    """Programs in a folder of the test's own: station_items is that of tests/host/items.c, or is not there."""
-
-    def __init__(self, folder, items):
-        self.folder, self.items = folder, items
-
-    def __enter__(self):
-        self.there, programs.FOLDER = programs.FOLDER, self.folder
-        if self.items:
-            shutil.copy(self.items, self.folder / "station_items")
-
-    def __exit__(self, *_):
-        programs.FOLDER = self.there
-
-
 def measured_by_host(sheet):
     run = subprocess.run([sys.argv[2]], input=sheet, capture_output=True, check=True)
     return run.stdout.decode("ascii")
@@ -83,7 +68,8 @@ def measured_by_host(sheet):
 def test_show(folder):
     for description in SAMPLES:
         sheet = description.with_suffix(".sheet").read_bytes()
-        with Measured(folder, sys.argv[2]):
+        shutil.copy(sys.argv[2], folder / "station_items")
+        with programs_of(folder):
             run = sheet_tool("show", description.with_suffix(".sheet"))
         same(f"show {description.stem}: status and errors", (run.status, run.err), (0, ""))
         lines = run.out.split("\n")
@@ -108,14 +94,14 @@ def test_show(folder):
 
 
 def test_show_without_program(folder):
-    with Measured(folder, None):
+    with programs_of(folder):
         run = sheet_tool("show", ROOT / "samples/greek.sheet")
     same("status", run.status, 0)
     same("lines", run.out.count("\n"), 2 + 4 + 3 * 11)
     same("how to make it", ("'rt check station_items' makes it" in run.err, run.err.count("\n")), (True, 1))
     (folder / "station_items").write_text("#!/bin/sh\necho 0 1 2 3\n", encoding="ascii")
     (folder / "station_items").chmod(0o755)
-    with Measured(folder, None):
+    with programs_of(folder):
         expect_error(sheet_tool("show", ROOT / "samples/greek.sheet"), 2, "something else than seven numbers")
 
 

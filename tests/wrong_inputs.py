@@ -1,6 +1,5 @@
 """Tests of tools/sheet with wrong inputs: one line on standard error, no input written over, '-' for a file, warnings, random edits."""
 import os
-import pathlib
 import random
 import re
 import shutil
@@ -9,8 +8,8 @@ import sys
 import tomllib
 
 import paper_model
-from tool_runs import ROOT, SAMPLES, Run, expect_error, same, sheet_program, sheet_tool
-from station_sheet import programs, toml_lines, warning
+from tool_runs import ROOT, SAMPLES, Run, copy_programs, expect_error, programs_of, same, sheet_program, sheet_tool
+from station_sheet import toml_lines, warning
 from station_sheet.description import assemble, read_description
 from station_sheet.explain import explain
 from station_sheet.files import Files
@@ -421,9 +420,11 @@ WARNINGS = [
 
 
 def test_warnings(folder):
+    copy_programs(folder / "bin")
     for (old, added), expected in WARNINGS:
         description = DESCRIPTION.replace('font = "odd"', "").replace("AB", "AA").replace("B Z", "A ") if "odd" in old else DESCRIPTION
-        run = new(folder, description.replace(old, added, 1))
+        with programs_of(folder / "bin"):
+            run = new(folder, description.replace(old, added, 1))
         same(f"status with {added!r}", run.status, 0)
         lines = run.err.splitlines()
         same(f"warnings with {added!r}: {lines}", len(lines), len(expected))
@@ -443,35 +444,34 @@ def test_no_warnings_for_samples(folder):
 
 def test_warnings_without_program(folder):
     """Without station_page one line says that; without station_items an item that paints nothing is told all the same."""
-    odd, there = DESCRIPTION.replace("x = 1\n", "x = 60\n"), programs.FOLDER
-    try:
-        programs.FOLDER = folder
+    odd = DESCRIPTION.replace("x = 1\n", "x = 60\n")
+    copy_programs(folder / "bin")
+    (folder / "bin/station_items").unlink()
+    with programs_of(folder / "bin"):
         lines = new(folder, odd).err.splitlines()
-        same("lines", len(lines), 1)
-        same("how to make it", "'rt check station_page' makes it" in lines[0], True)
+    same("without station_items", (len(lines), "item 0 (stage): paints nothing on the frame: it lies off it" in lines[0]), (1, True))
+    with programs_of(folder):
+        lines = new(folder, odd).err.splitlines()
+        same("without station_page", (len(lines), "'rt check station_page' makes it" in lines[0]), (1, True))
         same("without a text", new(folder, odd[:odd.index("[[item]]")]).err, "")
-        shutil.copy(there / "station_page", folder)
-        lines = new(folder, odd).err.splitlines()
-        same("with station_page", (len(lines), "item 0 (stage): paints nothing on the frame: it lies off it" in lines[0]), (1, True))
-    finally:
-        programs.FOLDER = there
 
 
 def test_places_off_the_frame(folder):
     """An item is told exactly if nothing of it is painted, by the model of the paper; as off the frame, if its measured box is."""
     chance, told = random.Random(SEED), {True: 0, False: 0}
     description = read_description(Files(), str(write_pair(folder)))
+    copy_programs(folder / "bin")
     for _ in range(400):
         place = chance.choice((-40, -9, -1, 0, 30, 59, 60, 61, 90)), chance.choice((-40, -5, -1, 0, 10, 19, 20, 21, 22, 23, 40))
         item = chance.choice(description.items)
         item = item._replace(place=place, layout=(chance.randrange(3), chance.randrange(4), *item.layout[2:]))
         sheet = assemble((60, 20, 255), description.fonts, [item])
-        oddity, painted = warning.drawing(item, description), set(paper_model.page(sheet)) != {255}
+        with programs_of(folder / "bin"):
+            oddity, painted = warning.drawing(item, description), set(paper_model.page(sheet)) != {255}
         same(f"told at {item.place} with {item.layout}", oddity is not None, not painted)
-        left, top, width, height = paper_model.bounding_box(sheet, 0)[1:]
-        if oddity is not None and width and height:
-            off = paper_model.cut((left, top, width, height), 60, 20) is None
-            same(f"the box at {item.place} with {item.layout}", "lies off the frame of 60 by 20" in oddity, off)
+        box = paper_model.bounding_box(sheet, 0)[1:]
+        if oddity is not None and box[2] and box[3]:
+            same(f"the box at {item.place} with {item.layout}", "lies off the frame of 60 by 20" in oddity, paper_model.cut(box, 60, 20) is None)
         told[painted] += 1
     same("places told and not told", min(told.values()) > 50, True)
     return f"{told[False]} places of 400, seed {SEED}"
@@ -509,30 +509,27 @@ def edited(data, chance):
 
 
 def test_random_edits(folder):
-    """Each run ends with a sheet that is accepted, or with one line and no other output."""
+    """Each run ends with a sheet that is accepted, or with one line and no other output. The programs are left out, for their time."""
     chance, counts = random.Random(SEED), {0: 0, 1: 0, 2: 0}
-    there, programs.FOLDER = programs.FOLDER, pathlib.Path(folder / "none")
-    try:
-        pairs = [(DESCRIPTION.encode(), "font.txt", FONT.encode())] * 3
-        for path in SAMPLES:
-            toml = path.read_bytes()
-            pairs += [(toml, name.decode(), (ROOT / "samples" / name.decode()).read_bytes()) for name in re.findall(rb'file = "(.*)"', toml)]
-        shutil.copytree(ROOT / "samples/fonts", folder / "fonts")
-        for k in range(EDITS):
-            toml, name, font = chance.choice(pairs)
-            (folder / "a.toml").write_bytes(edited(toml, chance) if k % 2 else toml)
-            (folder / name).write_bytes(font if k % 2 else edited(font, chance))
+    pairs = [(DESCRIPTION.encode(), "font.txt", FONT.encode())] * 3
+    for path in SAMPLES:
+        toml = path.read_bytes()
+        pairs += [(toml, name.decode(), (ROOT / "samples" / name.decode()).read_bytes()) for name in re.findall(rb'file = "(.*)"', toml)]
+    shutil.copytree(ROOT / "samples/fonts", folder / "fonts")
+    for k in range(EDITS):
+        toml, name, font = chance.choice(pairs)
+        (folder / "a.toml").write_bytes(edited(toml, chance) if k % 2 else toml)
+        (folder / name).write_bytes(font if k % 2 else edited(font, chance))
+        with programs_of(folder / "none"):
             run = sheet_tool("new", folder / "a.toml", folder / "a.sheet", "--header", folder / "a.h")
-            (folder / name).write_bytes(font)
-            counts[run.status] += 1
-            lines = [line for line in run.err.splitlines() if run.status or "station_page is missing" not in line]
-            if run.status != 0:
-                expect_error(run, run.status, "")
-            elif explain((folder / "a.sheet").read_bytes()) is not None or not all(line.startswith("sheet: warning: ") for line in lines):
-                raise AssertionError(f"edit {k}: {run.err!r}")
-            same(f"edit {k}: long lines", [line for line in lines if len(line) > 700], [])
-    finally:
-        programs.FOLDER = there
+        (folder / name).write_bytes(font)
+        counts[run.status] += 1
+        lines = [line for line in run.err.splitlines() if run.status or "station_page is missing" not in line]
+        if run.status != 0:
+            expect_error(run, run.status, "")
+        elif explain((folder / "a.sheet").read_bytes()) is not None or not all(line.startswith("sheet: warning: ") for line in lines):
+            raise AssertionError(f"edit {k}: {run.err!r}")
+        same(f"edit {k}: long lines", [line for line in lines if len(line) > 700], [])
     return f"{EDITS} edits, seed {SEED}: {counts[0]} built, {counts[1]} wrong, {counts[2]} files not read"
 
 
