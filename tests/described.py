@@ -4,8 +4,9 @@ import re
 
 import explained
 from tool_runs import ROOT, SAMPLES, Run, expect_error, same, sheet_program, sheet_tool
+from station_sheet import Problem, layout
 from station_sheet.describe import describe
-from station_sheet.description import read_description, sheet_of
+from station_sheet.description import FontPart, assemble, read_description, sheet_of
 from station_sheet.difference import differences
 from station_sheet.explain import explain
 from station_sheet.files import Files
@@ -73,6 +74,33 @@ def test_describe_changed_sheets(_):
     for k, sheet in enumerate(sheets):
         same(f"sheet {k} built again", built_again(sheet) == sheet, True)
     return f"{len(sheets)} sheets, seed {SEED}"
+
+
+def wide_sheet(mapping, replacement, count):
+    """A sheet of one font with so many cells of one pixel, 1,024 in a row."""
+    width = layout.MOST_ATLAS_WIDTH
+    atlas = random.Random(SEED).randbytes(-(-count // width) * width // 8)
+    font = FontPart("0", atlas, mapping, replacement, width, (1, 1, 0, 0, 0, 0, 0, 0), None)
+    return assemble((8, 8, 255), [font], [])
+
+
+def test_describe_many_glyphs(_):
+    """As many characters as a mapping may spell: each index is one of a glyph, also the last that fits its field."""
+    every = bytes.fromhex("00 F0 90 80 80 F0 9F BF BF")
+    sheets = [wide_sheet(every, replacement, 65_536) for replacement in (0, 65_535)]
+    same("atlas bytes", len(sheets[0]) - 24 - 28 - len(every), 8_192)
+    sheets += [wide_sheet(bytes.fromhex("00 F0 90 80 80 F0 9F BF BE"), replacement, 65_536) for replacement in (9, 65_535)]
+    for k, sheet in enumerate(sheets):
+        same(f"sheet {k} accepted", explain(sheet), None)
+        same(f"sheet {k} built again", built_again(sheet) == sheet, True)
+    text = describe(sheets[0], "sheet").replace("replacement U+10000", "replacement none")
+    try:
+        read_description(Text(text), "-")
+    except Problem as problem:
+        same("without a replacement", "line 11: font 0: the replacement's index is 65536, above 65535" in str(problem), True)
+    else:
+        raise AssertionError("an index that does not fit is accepted")
+    return f"{len(sheets)} sheets"
 
 
 def test_describe_refused(folder):
@@ -153,7 +181,22 @@ def test_header_of_samples(folder):
 
 def test_header_errors(folder):
     toml = (ROOT / "samples/greek.toml").read_text(encoding="utf-8").replace("fonts/", f"{ROOT}/samples/fonts/")
-    for old, new, words in (('name = "title"', 'name = "τίτλος"', "gives no name"), ('name = "title"', 'name = "Place!"', "as item 1 does")):
-        (folder / "a.toml").write_text(toml.replace(old, new, 1), encoding="utf-8")
+    for old, new, words in (('name = "title"', 'name = "τίτλος"', "line 39: item 1 (τίτλος): 'τίτλος' gives no name"),
+                            ('name = "title"', 'name = "Place!"', "line 47: item 2 (place): 'place' gives the name PLACE in the header, as item 1 does"),
+                            ('name = "greek"', 'name = "é"', "line 9: font 0: 'é' gives no name")):
+        (folder / "a.toml").write_text(toml.replace(old, new), encoding="utf-8")
         expect_error(sheet_tool("new", folder / "a.toml", folder / "a.sheet", "--header", folder / "a.h"), 1, words)
     same("files written in spite of an error", list(folder.glob("a.[sh]*")), [])
+
+
+def test_header_of_the_library_is_not_taken(folder):
+    """Every macro of include/station.h begins with STATION_: a header whose names would do so too is refused."""
+    same("macros", set(re.findall(r"^#define ((?!STATION_)\w+)", (ROOT / "include/station.h").read_text(encoding="utf-8"), re.M)), set())
+    toml, sheet = folder / "station.toml", folder / "a.sheet"
+    toml.write_bytes(describe((ROOT / "samples/greek.sheet").read_bytes(), "greek").encode("utf-8"))
+    for name in ("station.h", "Station.h", "-station-.h", "station_at.h", "station-item-at.hpp"):
+        expect_error(sheet_tool("new", toml, sheet, "--header", folder / name), 2, f"as the library's do: take another file name than {name}")
+    expect_error(sheet_program("new", toml, sheet, "--header", "-"), 2, "take another file name than station.toml")
+    same("files written in spite of an error", sorted(path.name for path in folder.iterdir()), ["station.toml"])
+    for name in ("stations.h", "north_station.h"):
+        same(name, sheet_tool("new", toml, sheet, "--header", folder / name).status, 0)

@@ -1,5 +1,5 @@
 """Tests of .ci/run and tests/oracle.sh in a clone that has no files of embedded-graphics: what is counted, skipped and said. A stand-in for
-rt proves nothing and takes no time."""
+rt proves nothing and takes no time. And of tests/paper.sh in a tree that was unpacked, and is no clone."""
 import os
 import re
 import shutil
@@ -76,3 +76,24 @@ def test_oracle_without_crate(folder):
         path.touch()
     status, lines = run(folder, "tests/oracle.sh", EMBEDDED_GRAPHICS="crate")
     same("a folder with a file less", (status, lines[0].endswith("which has no src/draw_target/mod.rs")), (1, True))
+
+
+def test_paper_without_git(folder):
+    """In a tree that git knows nothing of, and where there is no git: all files are looked at."""
+    shutil.copytree(ROOT, folder / "tree", ignore=shutil.ignore_patterns(".*", "target", "__pycache__"))
+    for name in ("bash", "dirname", "python3"):
+        (folder / "bin").mkdir(exist_ok=True)
+        (folder / "bin" / name).symlink_to(shutil.which(name))
+    status, lines = paper(folder, GIT_CEILING_DIRECTORIES=str(folder))
+    same("status, last line and failures", (status, lines[-1].endswith(" passed, 0 failed"), [line for line in lines if line.startswith("FAILED")]), (0, True, []))
+    (folder / "tree/docs/more.md").write_text("docs/SHEET.md" + ", section Nowhere\n", encoding="utf-8")
+    status, lines = paper(folder, PATH=str(folder / "bin"))
+    found = any("docs/more.md: section Nowhere" in line for line in lines)
+    same("status, last line and the file that names no section", (status, lines[-1].endswith(" passed, 1 failed"), found), (1, True, True))
+
+
+def paper(folder, **variables):
+    """The exit status and the lines of tests/paper.sh in the tree."""
+    done = subprocess.run([folder / "tree/tests/paper.sh", "references"], env={**os.environ, **variables}, capture_output=True, check=False)
+    same("errors", done.stderr, b"")
+    return done.returncode, done.stdout.decode("utf-8").splitlines()

@@ -2,9 +2,8 @@
 import re
 import shutil
 import subprocess
-import sys
 
-from tool_runs import ROOT, same
+from tool_runs import ROOT, copy_programs, same
 
 BLOCK = re.compile(r"(?:^    .*\n(?:\n(?=    ))?)+", re.M)
 
@@ -19,10 +18,7 @@ def make_place(folder):
     """A folder as a user has it: tools, samples, the programs, and the texts of the guide in files."""
     shutil.copytree(ROOT / "tools", folder / "tools")
     shutil.copytree(ROOT / "samples", folder / "samples")
-    (folder / "target/bin").mkdir(parents=True)
-    shutil.copy(ROOT / "target/bin/station_page", folder / "target/bin/station_page")
-    built = ROOT / "target/bin/station_items"
-    shutil.copy(built if built.is_file() else sys.argv[2], folder / "target/bin/station_items")
+    copy_programs(folder / "target/bin")
 
 
 def test_guide(folder):

@@ -1,5 +1,6 @@
 #!/usr/bin/env bash
-# Tests what a host in C and the people at a desk use: include/station.h, examples/logger, samples/ and tools/sheet, on libstation.a.
+# Tests what a host in C and the people at a desk use: include/station.h, examples/logger, samples/ and tools/sheet, on libstation.a; and that
+# every must-fail edit can be applied.
 #
 #   tests/host.sh
 #
@@ -96,6 +97,11 @@ threads() {
   "$1" -std=c99 -O2 "${warnings[@]}" -pthread tests/host/threads.c "$archive" -o "$out/threads" && "$out/threads" samples/hydrograph.sheet
 }
 
+# worst COMPILER: the program that times the worst cases; it runs for several seconds, and only its building is tested.
+worst() {
+  "$1" -std=c99 -O2 "${warnings[@]}" bench/worst.c "$archive" -o "$out/worst"
+}
+
 mkdir -p "$out"
 try "libstation.a" make_archive
 try "station_page" make_program
@@ -123,6 +129,9 @@ done
 try "stack of each call under 4 KiB, added up" python3 tests/host/stack.py "$archive"
 try "no variables, and memset alone" no_variables
 try "threads on one sheet, gcc" threads gcc
+for name in gcc clang; do
+  try "worst cases are built, $name" worst "$name"
+done
 
 for program in check items; do
   rm -f "$out/$program"

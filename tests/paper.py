@@ -7,6 +7,8 @@ Each test prints 'ok NAME' or 'FAILED NAME' with what differs. The last line is 
 """
 import glob
 import hashlib
+import itertools
+import math
 import os
 import re
 import subprocess
@@ -16,7 +18,9 @@ sys.dont_write_bytecode = True
 os.chdir(os.path.join(os.path.dirname(os.path.abspath(__file__)), ".."))
 sys.path.insert(0, "tools")
 import paper_model as model  # noqa: E402
-from station_sheet import layout  # noqa: E402
+from station_sheet import explain, layout  # noqa: E402
+from station_sheet.description import FontPart, ItemPart, assemble  # noqa: E402
+from station_sheet.show import decoration, grey  # noqa: E402
 
 PAPER, DEMANDS = "docs/SHEET.md", "docs/DEMANDS.md"
 TITLES = ["Numbers and bytes", "Geometry", "Characters", "Mapping", "Atlas", "One line", "Text", "Sheet", "Drawing and edits", "Page and host",
@@ -165,8 +169,47 @@ def gaps():
             bad += differences(row[0], at, f"{name}, {row[2]}: offset ")
             at = row[0] + row[1]
         bad += differences(at, size, f"{name}: size ")
-    return bad + differences([f"{row[1]}, {row[2]}" for row in table("Sheet", ["part", "offset", "size"])][:3],
-                             [f"0, {layout.HEADER_SIZE}", f"24 + 28 × k, {layout.FONT_SIZE}", f"24 + 28 × F + 28 × j, {layout.ITEM_SIZE}"])
+    return bad
+
+
+def value(formula, names):
+    """The value of a sum of products, with a number for each name."""
+    return sum(math.prod(names[part] if part in names else integer(part) for part in term.split(" × ")) for term in formula.split(" + "))
+
+
+@test("numbers are stored as the table says")
+def stored_numbers():
+    rows = {row[0]: row[2] for row in table("Numbers and bytes", ["stored as", "bytes at offset o", "value"])}
+    signed = re.fullmatch(r"with n = (.*): n if n is below ([\d,]+), else n − ([\d,]+) \(two's complement\)", rows["2 bytes, signed"])
+    bad = []
+    for b in (bytes(4), b"\xff" * 4, b"\xff\x7f\x34\x12", b"\x00\x80\xfe\xf1"):
+        names = dict(zip("abcd", b))
+        for size, stored in ((1, "1 byte"), (2, "2 bytes"), (4, "4 bytes")):
+            bad += differences(value(rows[stored], names), model.number(b, 0, size), f"{stored}: ")
+        n = value(signed[1], names)
+        bad += differences(n if n < integer(signed[2]) else n - integer(signed[3]), model.signed(b, 0), "signed: ")
+    return bad
+
+
+@test("the table of parts is that of crates/sheet/specs/Fields.antt and of the tools")
+def parts():
+    """Each offset as a formula; the order of the pieces is that of a sheet of two fonts and two items."""
+    source = read("crates/sheet/specs/Fields.antt")
+    at = {name: formula for name, formula in re.findall(r"^(fontAt|itemAt|piecesAt)(?: \w)* = (.*)$", source, re.M)}
+    items = at["itemAt"].replace(" * ", " × ").replace("fontCount b", "F")
+    bad = differences(at["piecesAt"], "itemAt b (itemCount b)", "piecesAt: ")
+    rows = table("Sheet", ["part", "offset", "size"])
+    wanted = [["header", "0", str(layout.HEADER_SIZE)], ["font record k", re.sub(r"\bn\b", "k", at["fontAt"].replace(" * ", " × ")), str(layout.FONT_SIZE)],
+              ["item record j", re.sub(r"\bn\b", "j", items), str(layout.ITEM_SIZE)], [re.sub(r"\bn\b", "I", items), "up to the end"]]
+    bad += differences([*rows[:3], rows[3][1:]], wanted)
+    for name, offset, _ in rows:
+        for fonts, items in ((0, 0), (2, 3), (4, 64)):
+            number = value(offset, {"F": fonts, "I": items, "k": 1, "j": 2})
+            tool = {"h": 0, "f": layout.font_record(1), "i": layout.item_record(fonts, 2), "p": layout.item_record(fonts, items)}[name[0]]
+            bad += differences(number, tool, f"{name} with {fonts} fonts and {items} items: ")
+    two = assemble((8, 8, 0), [FontPart("", b"", b"", 0, 0, (0,) * 8, None)] * 2, [ItemPart("", (0, 0), b"", 0, 0, bytes(8), (0,) * 4, None)] * 2)
+    pieces = [piece[0] for piece in explain.pieces(two, layout.header_of(two))]
+    return bad + differences(rows[3][0], f"pieces: {', '.join(pieces[:3])}, .., then {', '.join(pieces[4:])}, ..")
 
 
 @test("the byte tables are those of crates/sheet/specs/Fields.antt")
@@ -188,6 +231,69 @@ def fields_as_in_tools():
             at += size
         paper = [(row[0], row[1], TOOL_NAMES.get(row[2], row[2].replace(" ", "_")), "signed" in row[4]) for row in rows_of(which)]
         bad += [f"{name}: {p}, and not {t}" for p, t in zip(paper, tool, strict=True) if p != t]
+    return bad
+
+
+def numbered(fields):
+    """The bytes of an item from the first field to the last, as a sentence has them."""
+    rows = {row[2]: row for row in rows_of(2)}
+    first, last = rows[fields[0]][0], rows[fields[-1]][0] + rows[fields[-1]][1] - 1
+    return f"{first} {'and' if last == first + 1 else 'to'} {last}"
+
+
+STYLE_FIELDS = [f"{part} {kind}" for part in ("text", "background", "underline", "strikethrough") for kind in ("mode", "grey")]
+
+
+@test("the bytes that the style and the edits take are those of the byte tables, and of an edit")
+def bytes_of_edits():
+    rows = {row[0]: row[1:] for row in table("Drawing and edits", ["kind", "data", "bytes that are replaced"])}
+    places = {"new text": numbered(["text length"]), "new place": numbered(["x", "y"]), "new style": numbered(STYLE_FIELDS)}
+    bad = differences({kind: re.findall(r"item bytes (\d+ (?:and|to) \d+)", row[1]) for kind, row in rows.items()}, {kind: [at] for kind, at in places.items()})
+    bad += differences(re.findall(r"Bytes (\d+ to \d+) of an item are its style", SECTIONS["Sheet"]), [places["new style"]], "style: ")
+    bad += differences([row[2] for row in rows_of(2) if row[2] in STYLE_FIELDS], STYLE_FIELDS, "fields of the style: ")
+    bad += differences(rows["new style"][0], f"{len(STYLE_FIELDS)} bytes", "data of a new style: ")
+    sheet = sheet_of(text=b"AB", slot=4)
+    for kind, data, changed in (("text", (b"A" * 3,), "new text"), ("place", (-1, -1), "new place"), ("style", (bytes([1, 9, 1, 9, 2, 9, 2, 9]),), "new style")):
+        edited = bytearray(sheet)
+        getattr(model, f"set_{kind}")(edited, None, 0, *data)
+        first, last = map(int, re.findall(r"\d+", places[changed]))
+        bad += [f"{changed} changes byte {k} of the item" for k in range(28) if edited[52 + k] != sheet[52 + k] and not first <= k <= last]
+        bad += differences(any(edited[52 + k] != sheet[52 + k] for k in range(first, last + 1)), True, f"{changed} changes its bytes: ")
+    return bad
+
+
+CODE_NAMES = {"alignment": layout.ALIGNMENTS, "baseline": layout.BASELINES, "height kind": layout.HEIGHT_KINDS}
+
+
+def tool_codes(field):
+    """The names that the tools give the codes of a field; a grey of 77 is one that is used."""
+    if field in CODE_NAMES:
+        return list(CODE_NAMES[field])
+    shown, own = (grey, "set") if field in ("text mode", "background mode") else (decoration, "own grey")
+    return [{"77": own}.get(shown(code, 77), shown(code, 77)) for code in range(len(DEFINED_COLORS[shown]))]
+
+
+# how crates/records/specs/Records.antt names the codes, in their order
+DEFINED_COLORS = {grey: ["Unset", "Set"], decoration: ["None", "TextColor", "Custom"]}
+DEFINED_NAMES = {"optionalGrey": DEFINED_COLORS[grey], "decorationColor": DEFINED_COLORS[decoration], "alignment": ["Left", "Center", "Right"],
+                 "baseline": ["Top", "Bottom", "Middle", "Alphabetic"], "lineHeight": ["Pixels", "Percent"]}
+
+
+@test("the codes of the item's fields are those of the tools and of crates/records/specs/Records.antt")
+def codes():
+    bad, records = [], read("crates/records/specs/Records.antt")
+    for name, variants in DEFINED_NAMES.items():
+        body = re.search(rf"^{name} (?:\w+ )+= (.*)$", records, re.M)[1]
+        tested = [(int(code), variant) for code, variant in re.findall(r"\(eqb \w+ (\d)\) \(?(\w+)", body)]
+        bad += differences(tested, list(enumerate(variants[:-1])), f"{name}: ")
+        bad += differences(re.findall(r"[A-Z]\w*", body)[-1], variants[-1], f"{name}, otherwise: ")
+    for _, _, field, _, meaning, must, _ in rows_of(2):
+        if field in CODE_NAMES or field.endswith(" mode"):
+            bad += differences(meaning, ", ".join(f"{code} {name}" for code, name in enumerate(tool_codes(field))), f"{field}: ")
+            bad += differences(must, f"0 to {len(tool_codes(field)) - 1}", f"{field}: ")
+        elif field.endswith(" grey"):
+            mode = field.replace("grey", "mode")
+            bad += differences(re.findall(r"if (.*) is (\d)$", meaning), [(mode, str(len(tool_codes(mode)) - 1))], f"{field}: ")
     return bad
 
 
@@ -286,6 +392,55 @@ def header_codes():
 def refusals_as_named():
     listed = {name: int(n) for n, name in re.findall(r"^\| (\d+) \| `(?:STATION_)?(?:REFUSED_)?(\w+)` \|", read("docs/REFUSALS.md"), re.M)}
     return differences(refusals(), header_codes(), "station.h: ") + differences(refusals(), listed, "REFUSALS.md: ")
+
+
+def limit_rows():
+    """The least and the most of each limit, as they are written."""
+    return {row[0]: (row[1], row[2]) for row in table("Sheet", ["limit", "least", "most", "else"])}
+
+
+def numbered_phrases():
+    """Of each refusal the phrases with numbers, of its rule and of its full text, with the limits and offsets in them."""
+    limit, most = limit_rows(), {row[2]: row[5].split(" to ")[-1] for row in rows_of(2)}
+    at = {row[2]: row[0] for row in rows_of(2)}
+    style = {field: at[field] - at["text mode"] for field in STYLE_FIELDS}
+    (low, high), (short, long), size = limit["new x or y"], limit["bytes of the file"], limit["bytes of a new style"][1]
+    return {
+        1: (["header zero field not 0"], [f"fewer than {short} or more than {long} bytes", "header's zero field is not 0"]),
+        2: ([f"edition not {layout.EDITION}"], [f"edition is not {layout.EDITION}"]),
+        3: ([], [f"width or height is outside {' to '.join(limit['frame width'])}", f"width × height is above {limit['frame width × frame height'][1]}"]),
+        4: ([], [f"F is above {limit['fonts'][1]}", f"I is above {limit['items'][1]}"]),
+        6: (["zero field not 0"], [f"cell width, cell height or spacing is above {limit['spacing'][1]}", f"atlas width is above {limit['atlas width'][1]}",
+                                   "zero field is not 0"]),
+        8: ([], [f"more than {limit['characters that a mapping spells'][1]} characters"]),
+        9: (["slot tail or zero field not 0"], [
+            f"slot size is above {limit['slot size'][1]}", f"text or background mode above {most['text mode']}",
+            f"underline or strikethrough mode above {most['underline mode']}", *(f"{field} above {most[field]}" for field in CODE_NAMES),
+            f"height value above {limit['height value'][1]}", "zero field not 0", "slot after the text not 00"]),
+        15: ([f"outside {low} to {high}"], [f"outside {low} to {high}"]),
+        16: ([f"not {size} bytes"], [f"not have {size} bytes", f"byte {style['text mode']} or {style['background mode']} is above {most['text mode']}",
+                                     f"byte {style['underline mode']} or {style['strikethrough mode']} above {most['underline mode']}"]),
+        18: ([f"above {limit['whitespace'][1]}"], [f"above {limit['whitespace'][1]}"]),
+    }
+
+
+@test("the numbers of the refusals are those of the limits and of the byte tables")
+def numbers_of_refusals():
+    """Each phrase stands there, and no other number."""
+    bad, phrases = [], numbered_phrases()
+    limit, most = limit_rows(), {row[2]: row[5] for row in rows_of(2)}
+    for group in (("cell width", "cell height", "spacing"), ("frame width", "frame height")):
+        bad += differences(len({limit[name] for name in group}), 1, f"limits of {group}: ")
+    for pair in (("text mode", "background mode"), ("underline mode", "strikethrough mode")):
+        bad += differences(len({most[name] for name in pair}), 1, f"codes of {pair}: ")
+    for number, _, *texts in table("Replies and refusals", ["number", "name", "rule", "in full: refused if"]):
+        for text, wanted in zip(texts, phrases.get(int(number), ([], []))):
+            for phrase in wanted:
+                found = re.search(rf"(?<!\w){re.escape(phrase)}(?![\w,]*\d)", text)
+                bad += [] if found else [f"{number}: {phrase!r} is not in {text!r}"]
+                text = text[:found.start()] + text[found.end():] if found else text
+            bad += differences(re.findall(r"\d[\d,]*", text), [], f"{number}: other numbers: ")
+    return bad
 
 
 def paper_calls():
@@ -414,6 +569,25 @@ def utf8_tables():
     return bad
 
 
+@test("the first table of UTF-8 has the characters of the model")
+def utf8_values():
+    bad, at = [], 0
+    for leads, length, tails, formula, ill_formed in table("Characters", ["a", "length", "b, c, d", "the character's number v", "ill-formed if"]):
+        low, high = (int(n, 16) for n in leads.split(" to "))
+        bad += differences(low, at, f"{leads}: first byte ")
+        at, size = high + 1, int(length or 1)
+        bad += differences(tails, f"{', '.join('bcd'[:size - 1])} {'is' if size == 2 else 'are'} 80 to BF" if size > 1 else "", f"{leads}: ")
+        for b in itertools.product(range(low, high + 1), *[(0x80, 0x8F, 0x90, 0x9F, 0xA0, 0xBF)] * (size - 1)):
+            v = value(re.sub(r"\((\w) mod (\d+)\)", lambda found: str(b["abcd".index(found[1])] % int(found[2])), formula or "0"), dict(zip("abcd", b)))
+            limits = {word: [int(n, 16) for n in re.findall(rf"\b{word} ([0-9A-F]+)", ill_formed)] for word in ("below", "above", "from", "to")}
+            wrong = ill_formed == "always" or any(v < n for n in limits["below"]) or any(v > n for n in limits["above"])
+            wrong = wrong or any(first <= v <= last for first, last in zip(limits["from"], limits["to"]))
+            step = model.step(bytes(b) + b"\x80" * 3, 0)
+            if step != (model.ILL_FORMED if wrong else (v, size)):
+                bad.append(f"{bytes(b).hex(' ')}: {step}")
+    return bad + differences(at, 256, "first bytes: ")
+
+
 # ---- worked examples
 
 SAMPLE = dict(atlas=b"\x90\x60", mapping=b"AB", replacement=1, atlas_width=4, small=(2, 2, 1, 1, 0, 1, 3, 1))
@@ -485,6 +659,30 @@ def sequences():
     for offset, reply in table("Worked examples", ["offset", "reply"]):
         bad += differences(model.walk(line, int(offset)), tuple(map(integer, reply.split(", "))), f"offset {offset}: ")
     return bad
+
+
+@test("the page file is put together as its table says")
+def page_table():
+    """Bytes with what they are, and the numbers of the frame; the model writes the page of each frame so."""
+    words, bad = {"a line feed": b"\n", "a blank": b" "}, []
+    rows = table("Page and host", ["bytes", "what"])
+    for cell, what in rows:
+        if re.fullmatch("[0-9A-F]{2}( [0-9A-F]{2})*", cell):
+            said = [words.get(part) or part.strip("`").encode() for part in re.split(", | and ", what)]
+            bad += differences(hex_bytes(cell), b"".join(said), f"{what}: ")
+    most = integer(limit_rows()["frame width"][1])
+    digits = f"{len(str(1))} to {len(str(most))} digits"
+    for frame in ((1, 1), (4, 2), (most, 128), (100, 99)):
+        greys = bytes(31 * k % 256 for k in range(frame[0] * frame[1]))
+        sides, file = iter(frame), b""
+        for cell, what in rows:
+            side = re.match("the frame's (width in decimal, digits 30 to 39, without leading zeros|height, likewise)$", what)
+            bad += differences(cell, digits, f"{what}: ") if side else []
+            file += b"%d" % next(sides) if side else greys if cell == "width × height bytes" else hex_bytes(cell)
+        bad += differences(file == model.page_file(sheet_of(frame=frame, fonts=0, items=0), greys), True, f"page file of {frame}: ")
+    lengths = re.search(r"The shortest page has ([\d,]+) bytes, the longest ([\d,]+)\.", SECTIONS["Page and host"])
+    pages = [len(model.station_page(sheet_of(frame=frame, fonts=0, items=0))) for frame in ((1, 1), (256, 256))]
+    return bad + differences([integer(n) for n in lengths.groups()], pages, "shortest and longest: ")
 
 
 def dumped(text):
@@ -752,7 +950,24 @@ def pages_of_program():
 # ---- references; those to a paper that is not here, when asked for
 
 def tracked():
-    return [p for p in subprocess.run(["git", "ls-files"], capture_output=True, text=True, check=True).stdout.split("\n") if os.path.isfile(p)]
+    """The files that git tracks here; where it does not answer, all that is neither built nor hidden."""
+    try:
+        listed = subprocess.run(["git", "ls-files"], capture_output=True, text=True, check=True).stdout.split("\n")
+    except (OSError, subprocess.CalledProcessError):
+        listed = []
+    return [path for path in listed if os.path.isfile(path)] or list(walked())
+
+
+def walked():
+    for folder, folders, files in os.walk("."):
+        folders[:] = [name for name in folders if not name.startswith((".", "__")) and os.path.join(folder, name) != "./target"]
+        yield from (os.path.relpath(os.path.join(folder, name)) for name in files)
+
+
+@test("the files are found without git too")
+def found_without_git():
+    missing = {path for path in tracked() if not path.startswith(".")} - set(walked())
+    return sorted(missing) + [path for path in walked() if path.startswith(("target/", ".git/"))]
 
 
 @test("every section of the paper that a file names is there")

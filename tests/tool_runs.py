@@ -3,6 +3,7 @@ import collections
 import contextlib
 import io
 import pathlib
+import shutil
 import subprocess
 import sys
 import tempfile
@@ -11,7 +12,7 @@ sys.dont_write_bytecode = True
 ROOT = pathlib.Path(__file__).resolve().parents[1]
 sys.path[:0] = [str(ROOT / "tools")]
 
-from station_sheet import commands  # noqa: E402
+from station_sheet import commands, programs  # noqa: E402
 
 SAMPLES = sorted((ROOT / "samples").glob("*.toml"))
 
@@ -34,6 +35,24 @@ def sheet_tool(*words):
             status = stop.code
     out.flush()
     return Run(status, out.buffer.getvalue().decode("utf-8"), err.getvalue())
+
+
+def copy_programs(folder):
+    """Copies station_page and station_items; where the latter is not built, the program of tests/host/items.c, which measures as it does."""
+    folder.mkdir(parents=True, exist_ok=True)
+    built = ROOT / "target/bin/station_items"
+    shutil.copy(ROOT / "target/bin/station_page", folder / "station_page")
+    shutil.copy(built if built.is_file() else sys.argv[2], folder / "station_items")
+
+
+@contextlib.contextmanager
+def programs_of(folder):
+    """Has the tool take its programs from a folder."""
+    there, programs.FOLDER = programs.FOLDER, folder
+    try:
+        yield
+    finally:
+        programs.FOLDER = there
 
 
 def same(what, got, expected):

@@ -13,15 +13,16 @@ import subprocess
 import sys
 import zlib
 
-from tool_runs import ROOT, SAMPLES, Run, expect_error, run_tests, same, sheet_program, sheet_tool
+from tool_runs import ROOT, SAMPLES, Run, expect_error, programs_of, run_tests, same, sheet_program, sheet_tool
 
 import described
 import explained
 import gate
 import guide
+import must_fail
 import stored_sheets
 import wrong_inputs
-from station_sheet import layout, programs
+from station_sheet import layout
 
 
 def page_of(sheet):
@@ -59,21 +60,6 @@ def test_ascii_is_complete(_):
 
 # ---- show
 
-class Measured:
-    """Programs in a folder of the test's own: station_items is that of tests/host/items.c, or is not there."""
-
-    def __init__(self, folder, items):
-        self.folder, self.items = folder, items
-
-    def __enter__(self):
-        self.there, programs.FOLDER = programs.FOLDER, self.folder
-        if self.items:
-            shutil.copy(self.items, self.folder / "station_items")
-
-    def __exit__(self, *_):
-        programs.FOLDER = self.there
-
-
 def measured_by_host(sheet):
     run = subprocess.run([sys.argv[2]], input=sheet, capture_output=True, check=True)
     return run.stdout.decode("ascii")
@@ -82,7 +68,8 @@ def measured_by_host(sheet):
 def test_show(folder):
     for description in SAMPLES:
         sheet = description.with_suffix(".sheet").read_bytes()
-        with Measured(folder, sys.argv[2]):
+        shutil.copy(sys.argv[2], folder / "station_items")
+        with programs_of(folder):
             run = sheet_tool("show", description.with_suffix(".sheet"))
         same(f"show {description.stem}: status and errors", (run.status, run.err), (0, ""))
         lines = run.out.split("\n")
@@ -107,14 +94,14 @@ def test_show(folder):
 
 
 def test_show_without_program(folder):
-    with Measured(folder, None):
+    with programs_of(folder):
         run = sheet_tool("show", ROOT / "samples/greek.sheet")
     same("status", run.status, 0)
     same("lines", run.out.count("\n"), 2 + 4 + 3 * 11)
     same("how to make it", ("'rt check station_items' makes it" in run.err, run.err.count("\n")), (True, 1))
     (folder / "station_items").write_text("#!/bin/sh\necho 0 1 2 3\n", encoding="ascii")
     (folder / "station_items").chmod(0o755)
-    with Measured(folder, None):
+    with programs_of(folder):
         expect_error(sheet_tool("show", ROOT / "samples/greek.sheet"), 2, "something else than seven numbers")
 
 
@@ -128,6 +115,40 @@ def test_station_items(_):
         run = subprocess.run([program], input=sheet, capture_output=True, check=False)
         same(f"sheet {k}", run.stdout.decode("ascii"), measured_by_host(sheet))
     return f"{len(sheets)} sheets"
+
+
+def test_errors_of_station_page(_):
+    """What it says on standard error: that a sheet is refused, and that a page was not written. Nothing for a page that was."""
+    good = ROOT / "samples/greek.sheet"
+    for sheet, number in ((b"", 1), (b"\2" + good.read_bytes()[1:], 2), (bytes(65_537), 1)):
+        out, err = said_by("station_page", sheet)
+        same("a refused sheet", (out, err.count("\n"), f"refused {number}" in err), (f"refused {number}\n".encode(), 1, True))
+    same("a page", said_by("station_page", good.read_bytes())[1], "")
+    err = said_into_full("station_page", good)
+    same("a page into a full output", (err.count("\n"), "page not written" in err), (1, True))
+
+
+def test_errors_of_station_items(_):
+    """The same of station_items, where it is built."""
+    if not (ROOT / "target/bin/station_items").is_file():
+        return "target/bin/station_items is not there"
+    good = ROOT / "samples/greek.sheet"
+    same("a refused sheet", said_by("station_items", b"")[1].count("\n"), 1)
+    same("measured items", said_by("station_items", good.read_bytes())[1], "")
+    same("items into a full output: an error is said", said_into_full("station_items", good) != "", True)
+    return None
+
+
+def said_by(name, sheet):
+    """What a program writes to standard output and to standard error."""
+    run = subprocess.run([ROOT / "target/bin" / name], input=sheet, capture_output=True, check=False)
+    return run.stdout, run.stderr.decode("utf-8")
+
+
+def said_into_full(name, path):
+    """What a program writes to standard error if standard output takes nothing."""
+    with open(path, "rb") as sheet, open("/dev/full", "wb") as full:
+        return subprocess.run([ROOT / "target/bin" / name], stdin=sheet, stdout=full, stderr=subprocess.PIPE, check=False).stderr.decode("utf-8")
 
 
 def test_show_refused(folder):
@@ -360,7 +381,7 @@ def test_version_of_header(_):
 def main():
     if len(sys.argv) != 3:
         sys.exit("usage: python3 tests/tools.py CHECK ITEMS")
-    modules = (explained, sys.modules[__name__], described, wrong_inputs, guide, gate)
+    modules = (explained, sys.modules[__name__], described, wrong_inputs, guide, gate, must_fail)
     return 1 if sum(run_tests(module) for module in modules) else 0
 
 

@@ -1,6 +1,5 @@
 """Tests of tools/sheet with wrong inputs: one line on standard error, no input written over, '-' for a file, warnings, random edits."""
 import os
-import pathlib
 import random
 import re
 import shutil
@@ -8,14 +7,16 @@ import subprocess
 import sys
 import tomllib
 
-from tool_runs import ROOT, SAMPLES, Run, expect_error, same, sheet_program, sheet_tool
-from station_sheet import programs, toml_lines, warning
-from station_sheet.description import read_description
+import paper_model
+from tool_runs import ROOT, SAMPLES, Run, copy_programs, expect_error, programs_of, same, sheet_program, sheet_tool
+from station_sheet import toml_lines, warning
+from station_sheet.description import assemble, read_description
 from station_sheet.explain import explain
 from station_sheet.files import Files
 
 SEED = 4127
 EDITS = 1_500
+NOBODY = 65_534
 
 FONT = "cell 2 3\nreplacement U+0041\nglyph U+0041 A\n.#\n##\n.#\n"
 DESCRIPTION = '''[frame]
@@ -94,7 +95,9 @@ ODD_DESCRIPTIONS = [
     (lambda t: t.replace("x = 4", "x = 4.5"), "line 43: item 1: 'x' must be"), (lambda t: t.replace("x = 4", ""), "line 41: item 1: 'x' is missing"),
     (lambda t: t.replace('name = "stage"', 'name = "a\\nb"\nfont = "q"'), "item 0 (a\\nb): there is no font 'q'"),
     (lambda t: t.replace('"AA"', '"AÄ"'), "line 38: item 0 (stage): font 'plain' has no glyph for U+00C4"),
-    (lambda t: t.replace("unused_background_grey = 7", "unused_text_grey = 7"), "'text_grey' is set"),
+    (lambda t: t.replace("unused_background_grey = 7", "unused_text_grey = 7"), "line 25: style 'label': 'unused_text_grey' is for a grey that is not used"),
+    (lambda t: t.replace("[[item]]", "[style.v]\ntext_grey = 3\nunused_text_grey = 4\n[[item]]", 1), "line 35: style 'v': 'unused_text_grey' is for"),
+    (lambda t: t.replace('name = "stage"', 'name = "stage"\nbackground_grey = 5'), "line 36: item 0 (stage): 'unused_background_grey' is for"),
     (lambda t: t.replace("#..# ..#.", "#..# ..#"), "row 1 of 'atlas' needs 4"), (lambda t: t.replace(".##.\n", ".#x.\n"), "row 2 of 'atlas'"),
     (lambda t: t.replace("FF 00", "FF 0"), "two hexadecimal digits"), (lambda t: t.replace("cell = [2, 2]", "cell = [2]"), "list of two numbers"),
     (lambda t: t.replace("cell = [2, 2]", ""), "'cell' is missing"), (lambda t: t.replace('mapping = "AB"', ""), "'mapping' is missing"),
@@ -102,6 +105,15 @@ ODD_DESCRIPTIONS = [
     (lambda t: t.replace("columns = 1", "bitmap = ''"), "in the place of 'file'"), (lambda t: t.replace("columns = 1", "spacing = 1"), "'spacing' is no key"),
     (lambda t: t.replace("[frame]", "[fame]"), "line 1: the description: 'fame' is no key"), (lambda t: "", "[frame] is missing"),
     (lambda t: t.replace("missing_glyphs = true", "missing_glyphs = 1"), "true or false"),
+    (lambda t: t.replace("missing_glyphs = true", ""), "line 46: item 1: font 'odd' has no glyph for U+0020"),
+    (lambda t: t.replace("width = 60\nheight = 20", "width = 512\nheight = 200"), "line 2: the sheet would be refused with 3"),
+    (lambda t: t.replace("columns = 1\n", "columns = 1\n" + '[[font]]\nfile = "font.txt"\n' * 3), "line 17: the sheet would be refused with 4"),
+    (lambda t: t + '[[item]]\nx = 0\ny = 0\ntext = ""\nslot = 1\n' * 63, "line 358: the sheet would be refused with 4"),
+    (lambda t: t.replace('mapping = "AB"', 'mapping = "AB\\u0000\\U00010000\\U00020000"'), "line 15: the sheet would be refused with 8"),
+    (lambda t: t.replace(".##.\n", ".##.\n" * 66_000), "a.toml: the sheet would be refused with 1"),
+    (lambda t: t + "a" + ".a" * 100_000 + " = 1\n", "line 48: no description: a key has more than 16 parts"),
+    (lambda t: t + "[" + ' . '.join(['"a b"'] * 17) + "]\n", "line 48: no description: a key has more than 16 parts"),
+    (lambda t: t + "x = [\n1, { " + "'#\"'." * 20_000 + "b = 1 }]\n", "line 49: no description: a key has more than 16 parts"),
 ]
 ODD_FONTS = [
     (lambda t: t + "cell 4 4\nglyph U+0042\n" + "....\n" * 4, "line 7: 'cell' stands once"),
@@ -125,6 +137,16 @@ def test_odd_descriptions(folder):
         expect_error(new(folder, change(DESCRIPTION)), 2 if words == "no name of a file" else 1, words)
     same("a sheet written in spite of an error", (folder / "a.sheet").exists(), False)
     return f"{len(ODD_DESCRIPTIONS)} descriptions"
+
+
+def test_points_that_part_no_key(folder):
+    """In strings, comments and bitmaps there may be any number of them; and a key of 16 parts is left to tomllib."""
+    points = "A." * 40
+    for change in (lambda t: t.replace('"AA"', f'"{points}"').replace("slot = 8", "slot = 80\nmissing_glyphs = true"),
+                   lambda t: f"# {points}A = 1\n" + t.replace("x = 4", f"x = 4 # {points}A"), lambda t: t.replace('"stage"', f"\'\'\'\n{points}\n\'\'\'")):
+        run = new(folder, change(DESCRIPTION))
+        same(f"errors with {change(DESCRIPTION)[:80]!r}", (run.status, run.err), (0, ""))
+    expect_error(new(folder, DESCRIPTION + ".".join("a" * 16) + " = 1\n"), 1, "'a' is no key here")
 
 
 def test_odd_fonts(folder):
@@ -212,6 +234,151 @@ def test_inputs_are_kept(folder):
     return f"{len(runs) + 4} runs"
 
 
+def shell(folder, command, user=None, stdout=subprocess.PIPE, **variables):
+    """One run of a command line in a folder, in which $sheet is the tool."""
+    environment = {**os.environ, "sheet": str(ROOT / "tools/sheet"), **variables}
+    run = subprocess.run(["bash", "-c", command], cwd=folder, env=environment, user=user, stdin=subprocess.DEVNULL, stdout=stdout, stderr=subprocess.PIPE,
+                         check=False)
+    return Run(run.returncode, run.stdout or b"", run.stderr.decode("utf-8"))
+
+
+def files_in(folder):
+    return {path: path.read_bytes() for path in folder.rglob("*") if path.is_file()}
+
+
+def same_files(what, folder, before):
+    """That a folder has these files, with these bytes."""
+    after = files_in(folder)
+    same(f"files changed by {what}", sorted(path.name for path in {**before, **after} if before.get(path) != after.get(path)), [])
+
+
+def test_inputs_are_kept_from_standard_output(folder):
+    shutil.copytree(ROOT / "samples", folder, dirs_exist_ok=True)
+    before = files_in(folder)
+    commands = ("describe greek.sheet >> greek.sheet", "describe greek.sheet 1<>greek.sheet", "new greek.toml - >> greek.toml",
+                "new greek.toml - >> fonts/greek-8x12.txt", "new greek.toml a.sheet >> greek.toml", "show greek.sheet >> greek.sheet",
+                "explain - <greek.sheet >> greek.sheet", "diff greek.sheet table.sheet >> table.sheet", "describe greek.sheet /dev/stdout >> greek.sheet",
+                "view greek.sheet - --page greek.pgm 1<>greek.pgm")
+    for command in commands:
+        expect_error(shell(folder, f'"$sheet" {command}'), 2, "is an input")
+        same_files(command, folder, before)
+    same("another file", shell(folder, '"$sheet" explain greek.sheet >> a'), Run(0, b"", ""))
+    return f"{len(commands)} commands"
+
+
+def test_files_are_kept_on_errors(folder):
+    """After an error each file is as it was, and none is added; every output is tried as the one that cannot be written."""
+    shutil.copytree(ROOT / "samples", folder, dirs_exist_ok=True)
+    for name in ("keep.sheet", "keep.h", "keep.toml", "keep.png"):
+        (folder / name).write_bytes(name.encode())
+    before = files_in(folder)
+    commands = (("new greek.toml keep.sheet --header no/x.h", "no/x.h: No such"), ("new greek.toml no/x.sheet --header keep.h", "no/x.sheet: No such"),
+                ("new greek.toml keep.sheet --header /dev/full", "/dev/full: No space"), ("new greek.toml keep.sheet --header fonts", "fonts: Is a directory"),
+                ("new greek.toml keep.sheet --header keep.h > /dev/full", "standard output: No space"), ("new greek.toml keep.sheet >&-", "standard output"),
+                ("new greek.toml keep.sheet --header - > /dev/full", "standard output: No space"), ("new greek.toml keep.sheet --header ''", "No such"),
+                ("new greek.toml keep.sheet --header " + "a" * 300, "name too long"), ("new greek.toml keep.sheet/ --header keep.h", "Not a directory"))
+    for command, words in commands:
+        expect_error(shell(folder, f'"$sheet" {command}'), 2, words)
+        same_files(command, folder, before)
+    limited = ("describe hydrograph.sheet keep.toml", "new hydrograph.toml keep.sheet --header keep.h", "view hydrograph.sheet keep.png --page hydrograph.pgm")
+    for command in limited:
+        expect_error(shell(folder, f'ulimit -f 1; "$sheet" {command}'), 2, "File too large")
+        same_files(command, folder, before)
+    return f"{len(commands) + len(limited)} commands"
+
+
+def test_permissions_and_links_are_kept(folder):
+    sheet, link, far = folder / "a.sheet", folder / "link", folder / "far"
+    wanted = (ROOT / "samples/greek.sheet").read_bytes()
+    sheet.write_bytes(b"old")
+    sheet.chmod(0o640)
+    far.mkdir()
+    link.symlink_to("far/middle")
+    (far / "middle").symlink_to("../a.sheet")
+    (folder / "open").symlink_to("far/new.sheet")
+    for path in (sheet, link, folder / "open", folder / "fresh.sheet"):
+        same(f"new into {path.name}", sheet_tool("new", ROOT / "samples/greek.toml", path).status, 0)
+        same(f"bytes of {path.name}", path.read_bytes() == wanted, True)
+        sheet.write_bytes(b"old" if path == sheet else wanted)
+    same("links", (os.readlink(link), os.readlink(far / "middle"), os.readlink(folder / "open")), ("far/middle", "../a.sheet", "far/new.sheet"))
+    mask = os.umask(0)
+    os.umask(mask)
+    modes = [path.stat().st_mode & 0o7777 for path in (sheet, far / "new.sheet", folder / "fresh.sheet")]
+    same("permissions", modes, [0o640, 0o666 & ~mask, 0o666 & ~mask])
+    same("files beside them", sorted(path.name for path in folder.rglob(".*")), [])
+    if os.geteuid() == 0:
+        os.chown(sheet, NOBODY, NOBODY)
+        same("new into another's file", sheet_tool("new", ROOT / "samples/greek.toml", sheet).status, 0)
+        same("its owner", (sheet.stat().st_uid, sheet.stat().st_gid, sheet.stat().st_mode & 0o7777), (NOBODY, NOBODY, 0o640))
+
+
+def test_files_that_may_not_be_written(folder):
+    """For a user who is not root: one of these is kept, though its folder takes new files; in a folder that takes none, an old file is written."""
+    shutil.copytree(ROOT / "samples", folder, dirs_exist_ok=True)
+    user, (locked, kept) = NOBODY if os.geteuid() == 0 else None, (folder / "locked", folder / "kept.sheet")
+    locked.mkdir()
+    (locked / "open.sheet").write_bytes(b"old")
+    kept.write_bytes(b"old")
+    for path, mode in ((folder, 0o777), (locked / "open.sheet", 0o666), (kept, 0o444), (locked, 0o555)):
+        path.chmod(mode)
+    if shell(folder, '"$sheet" --help', user).status != 0:
+        return "another user cannot run the tool here"
+    before = files_in(folder)
+    for output in ("kept.sheet", "locked/new.sheet", "a.sheet --header kept.sheet"):
+        expect_error(shell(folder, f'"$sheet" new greek.toml {output}', user), 2, "Permission denied")
+        same_files(f"new into {output}", folder, before)
+    same("new into a locked folder", shell(folder, '"$sheet" new greek.toml locked/open.sheet', user).status, 0)
+    same("its bytes", (locked / "open.sheet").read_bytes() == (folder / "greek.sheet").read_bytes(), True)
+    return None
+
+
+def test_outputs_that_are_no_files(folder):
+    """Pipes, devices and descriptors are written as they stand."""
+    shutil.copytree(ROOT / "samples", folder, dirs_exist_ok=True)
+    wanted = (folder / "greek.sheet").read_bytes()
+    for command in ('"$sheet" new greek.toml /dev/stdout', '"$sheet" new greek.toml /dev/stdout | cat', '"$sheet" new greek.toml /dev/fd/1 > a; cat a',
+                    'ln -s /dev/stdout link; "$sheet" new greek.toml link > a; cat a', 'mkfifo pipe; cat pipe & "$sheet" new greek.toml pipe > a; wait',
+                    '"$sheet" new greek.toml /dev/fd/3 3>&1 > a', 'echo old > a; "$sheet" new greek.toml /dev/stdout > a; cat a'):
+        same(command, shell(folder, command), Run(0, wanted, ""))
+    same("no output", shell(folder, '"$sheet" new greek.toml /dev/null > a'), Run(0, b"", ""))
+    expect_error(shell(folder, '"$sheet" new greek.toml - --header /dev/stdout'), 2, "two outputs")
+    same("files beside them", sorted(path.name for path in folder.glob(".*")), [])
+
+
+def test_outputs_that_take_a_part(folder):
+    """Each output is whole, or an error is said in one line: with and without Python's own buffer."""
+    shutil.copytree(ROOT / "samples", folder, dirs_exist_ok=True)
+    commands = ("describe hydrograph.sheet", "show hydrograph.sheet", "view hydrograph.sheet - --page hydrograph.pgm", "new hydrograph.toml -")
+    for command in commands:
+        for variables in ({}, {"PYTHONUNBUFFERED": "1"}):
+            expect_error(shell(folder, f'ulimit -f 1; "$sheet" {command} > a', **variables), 2, "standard output: File too large")
+            expect_error(shell(folder, f'"$sheet" {command} > /dev/full', **variables), 2, "standard output: No space left")
+    reader, closed = os.pipe()
+    os.close(reader)
+    for command in ('"$sheet" explain greek.sheet', 'head -c 100 hydrograph.sheet | "$sheet" show -', '"$sheet" --help', '"$sheet" new --help'):
+        expect_error(shell(folder, f"{command} > /dev/full"), 2, "standard output: No space left")
+        expect_error(shell(folder, f"{command} >&-"), 2, "standard output is closed")
+        expect_error(shell(folder, command, stdout=closed), 2, "standard output: Broken pipe")
+    os.close(closed)
+    same("help", shell(folder, '"$sheet" --help').out.startswith(b"usage: sheet "), True)
+    for command in ("show missing", "explain greek.sheet >&-", "draw"):
+        same(f"{command} and a full standard error", shell(folder, f'"$sheet" {command} 2> /dev/full'), Run(2, b"", ""))
+
+
+def test_start_of_the_program(folder):
+    """Where Python does not look beside the program for its parts, and where it is interrupted while these load."""
+    sheet = ROOT / "samples/greek.sheet"
+    for words, variables in (("-I", {}), ("-P", {}), ("", {"PYTHONSAFEPATH": "1"})):
+        run = shell(folder, f'"{sys.executable}" {words} "$sheet" explain "{sheet}"', **variables)
+        same(f"python3 {words} {variables}", run, Run(0, f"{sheet}: accepted\n".encode(), ""))
+    (folder / "link").symlink_to(ROOT / "tools/sheet")
+    same("through a link", shell(folder, f'./link explain "{sheet}"').status, 0)
+    shutil.copytree(ROOT / "tools", folder / "tools")
+    parts = folder / "tools/station_sheet/__init__.py"
+    parts.write_text("import os, signal, time\nos.kill(os.getpid(), signal.SIGINT)\ntime.sleep(9)\n" + parts.read_text(encoding="utf-8"), encoding="utf-8")
+    expect_error(sheet_program("explain", sheet, tool=folder / "tools/sheet"), 2, "interrupted")
+
+
 def test_standard_streams(folder):
     """'-' for each file, each run as a program."""
     toml, sheet, page = (ROOT / "samples" / f"greek.{kind}" for kind in ("toml", "sheet", "pgm"))
@@ -239,11 +406,12 @@ def test_standard_streams(folder):
 # ---- warnings
 
 WARNINGS = [
-    (('name = "odd"', 'name = "plain"'), ("font 1: the name 'plain'",)),
+    (('name = "odd"', 'name = "plain"'), ("line 12: font 1: the name 'plain' is that of font 0",)),
     (("x = 4", 'x = 4\nname = "stage"'), ("line 44: item 1 (stage): the name is also that of item 0",)),
     (("x = 1\n", "x = 60\n"), ("line 33: item 0 (stage): lies off the frame of 60 by 20",)), (("y = 2\n", "y = 20\n"), ("item 0 (stage): lies off",)),
-    (("y = 2\n", 'y = -30\nbaseline = "bottom"\n'), ("item 0 (stage): paints nothing on the frame",)),
-    (("x = 1\n", 'x = -1\nalignment = "right"\n'), ("item 0 (stage): lies off",)), (("x = 1\n", "x = -9\n"), ("item 0 (stage): paints nothing on the frame",)),
+    (("y = 2\n", 'y = -30\nbaseline = "bottom"\n'), ("item 0 (stage): lies off the frame of 60 by 20: x is 1, y is -30",)),
+    (("x = 1\n", 'x = -1\nalignment = "right"\n'), ("item 0 (stage): lies off",)), (("x = 1\n", "x = -9\n"), ("item 0 (stage): lies off",)),
+    (('text = "AA"', 'text = "\\n"'), ("item 0 (stage): paints nothing on the frame: it lies off it, or its glyphs are blank",)),
     (("text_grey = 0\n", ""), ("item 0 (stage): paints nothing: its decorations",)),
     (("text_grey = 0\nunused_background_grey = 7\nunderline = \"text colour\"", ""), ("item 0 (stage): paints nothing: none of text_grey",)),
     (('text = "AA"\nslot = 8', 'text = ""'), ("paints nothing: it has no text",)), (('text = "AA"', 'text = ""'), ()),
@@ -252,9 +420,11 @@ WARNINGS = [
 
 
 def test_warnings(folder):
+    copy_programs(folder / "bin")
     for (old, added), expected in WARNINGS:
         description = DESCRIPTION.replace('font = "odd"', "").replace("AB", "AA").replace("B Z", "A ") if "odd" in old else DESCRIPTION
-        run = new(folder, description.replace(old, added, 1))
+        with programs_of(folder / "bin"):
+            run = new(folder, description.replace(old, added, 1))
         same(f"status with {added!r}", run.status, 0)
         lines = run.err.splitlines()
         same(f"warnings with {added!r}: {lines}", len(lines), len(expected))
@@ -273,29 +443,38 @@ def test_no_warnings_for_samples(folder):
 
 
 def test_warnings_without_program(folder):
-    """Without station_page the place alone tells."""
-    there = programs.FOLDER
-    try:
-        programs.FOLDER = folder
-        same("far to the right", "lies off the frame" in new(folder, DESCRIPTION.replace("x = 1\n", "x = 60\n")).err, True)
-        same("far to the left", new(folder, DESCRIPTION.replace("x = 1\n", "x = -9\n")).err, "")
-    finally:
-        programs.FOLDER = there
+    """Without station_page one line says that; without station_items an item that paints nothing is told all the same."""
+    odd = DESCRIPTION.replace("x = 1\n", "x = 60\n")
+    copy_programs(folder / "bin")
+    (folder / "bin/station_items").unlink()
+    with programs_of(folder / "bin"):
+        lines = new(folder, odd).err.splitlines()
+    same("without station_items", (len(lines), "item 0 (stage): paints nothing on the frame: it lies off it" in lines[0]), (1, True))
+    with programs_of(folder):
+        lines = new(folder, odd).err.splitlines()
+        same("without station_page", (len(lines), "'rt check station_page' makes it" in lines[0]), (1, True))
+        same("without a text", new(folder, odd[:odd.index("[[item]]")]).err, "")
 
 
 def test_places_off_the_frame(folder):
-    """What a warning takes from the place alone is what station_page paints: nothing."""
-    chance, told = random.Random(SEED), 0
+    """An item is told exactly if nothing of it is painted, by the model of the paper; as off the frame, if its measured box is."""
+    chance, told = random.Random(SEED), {True: 0, False: 0}
     description = read_description(Files(), str(write_pair(folder)))
+    copy_programs(folder / "bin")
     for _ in range(400):
         place = chance.choice((-40, -9, -1, 0, 30, 59, 60, 61, 90)), chance.choice((-40, -5, -1, 0, 10, 19, 20, 21, 22, 23, 40))
         item = chance.choice(description.items)
         item = item._replace(place=place, layout=(chance.randrange(3), chance.randrange(4), *item.layout[2:]))
-        if warning.place(item, description) is not None:
-            told += 1
-            same(f"painted at {item.place} with {item.layout}", warning.drawing(item, description) is not None, True)
-    same("places told", told > 100, True)
-    return f"{told} places of 400, seed {SEED}"
+        sheet = assemble((60, 20, 255), description.fonts, [item])
+        with programs_of(folder / "bin"):
+            oddity, painted = warning.drawing(item, description), set(paper_model.page(sheet)) != {255}
+        same(f"told at {item.place} with {item.layout}", oddity is not None, not painted)
+        box = paper_model.bounding_box(sheet, 0)[1:]
+        if oddity is not None and box[2] and box[3]:
+            same(f"the box at {item.place} with {item.layout}", "lies off the frame of 60 by 20" in oddity, paper_model.cut(box, 60, 20) is None)
+        told[painted] += 1
+    same("places told and not told", min(told.values()) > 50, True)
+    return f"{told[False]} places of 400, seed {SEED}"
 
 
 # ---- random edits
@@ -330,30 +509,27 @@ def edited(data, chance):
 
 
 def test_random_edits(folder):
-    """Each run ends with a sheet that is accepted, or with one line and no other output."""
+    """Each run ends with a sheet that is accepted, or with one line and no other output. The programs are left out, for their time."""
     chance, counts = random.Random(SEED), {0: 0, 1: 0, 2: 0}
-    there, programs.FOLDER = programs.FOLDER, pathlib.Path(folder / "none")
-    try:
-        pairs = [(DESCRIPTION.encode(), "font.txt", FONT.encode())] * 3
-        for path in SAMPLES:
-            toml = path.read_bytes()
-            pairs += [(toml, name.decode(), (ROOT / "samples" / name.decode()).read_bytes()) for name in re.findall(rb'file = "(.*)"', toml)]
-        shutil.copytree(ROOT / "samples/fonts", folder / "fonts")
-        for k in range(EDITS):
-            toml, name, font = chance.choice(pairs)
-            (folder / "a.toml").write_bytes(edited(toml, chance) if k % 2 else toml)
-            (folder / name).write_bytes(font if k % 2 else edited(font, chance))
+    pairs = [(DESCRIPTION.encode(), "font.txt", FONT.encode())] * 3
+    for path in SAMPLES:
+        toml = path.read_bytes()
+        pairs += [(toml, name.decode(), (ROOT / "samples" / name.decode()).read_bytes()) for name in re.findall(rb'file = "(.*)"', toml)]
+    shutil.copytree(ROOT / "samples/fonts", folder / "fonts")
+    for k in range(EDITS):
+        toml, name, font = chance.choice(pairs)
+        (folder / "a.toml").write_bytes(edited(toml, chance) if k % 2 else toml)
+        (folder / name).write_bytes(font if k % 2 else edited(font, chance))
+        with programs_of(folder / "none"):
             run = sheet_tool("new", folder / "a.toml", folder / "a.sheet", "--header", folder / "a.h")
-            (folder / name).write_bytes(font)
-            counts[run.status] += 1
-            lines = run.err.splitlines()
-            if run.status != 0:
-                expect_error(run, run.status, "")
-            elif explain((folder / "a.sheet").read_bytes()) is not None or not all(line.startswith("sheet: warning: ") for line in lines):
-                raise AssertionError(f"edit {k}: {run.err!r}")
-            same(f"edit {k}: long lines", [line for line in lines if len(line) > 700], [])
-    finally:
-        programs.FOLDER = there
+        (folder / name).write_bytes(font)
+        counts[run.status] += 1
+        lines = [line for line in run.err.splitlines() if run.status or "station_page is missing" not in line]
+        if run.status != 0:
+            expect_error(run, run.status, "")
+        elif explain((folder / "a.sheet").read_bytes()) is not None or not all(line.startswith("sheet: warning: ") for line in lines):
+            raise AssertionError(f"edit {k}: {run.err!r}")
+        same(f"edit {k}: long lines", [line for line in lines if len(line) > 700], [])
     return f"{EDITS} edits, seed {SEED}: {counts[0]} built, {counts[1]} wrong, {counts[2]} files not read"
 
 

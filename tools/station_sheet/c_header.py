@@ -11,7 +11,10 @@ def macro_name(name):
 
 
 def prefix_of(path):
+    """What the names in the header of this path begin with; the library's beginning is not taken."""
     word = macro_name(PurePath(path).stem) if path != "-" else ""
+    if f"{word}_".startswith("STATION_"):
+        raise Problem(f"the header's names would begin with STATION_, as the library's do: take another file name than {PurePath(path).name}", 2)
     return word if word and not word[0].isdigit() else f"SHEET_{word}".rstrip("_")
 
 
@@ -26,11 +29,11 @@ def c_header(description, sheet, path, source):
         f"#define {prefix}_WIDTH {width}", f"#define {prefix}_HEIGHT {height}", f"#define {prefix}_LENGTH {len(sheet)}",
         f"#define {prefix}_FONTS {len(description.fonts)}", f"#define {prefix}_ITEMS {len(description.items)}",
     ]
-    fonts = [(number, font.name) for number, font in enumerate(description.fonts) if not font.name.isdecimal()]
+    fonts = [(number, font) for number, font in enumerate(description.fonts) if not font.name.isdecimal()]
     if fonts:
         lines += ["", "/* Fonts. */"]
         lines += [f"#define {prefix}_FONT_{word} {number}" for number, word in macros(fonts, "font")]
-    items = [(number, item.name) for number, item in enumerate(description.items) if item.name]
+    items = [(number, item) for number, item in enumerate(description.items) if item.name]
     if items:
         lines += ["", "/* Items, and the bytes of their slots: the most that a new text may have. */"]
     for number, word in macros(items, "item"):
@@ -44,13 +47,13 @@ def comment(name):
 
 
 def macros(named, kind):
-    """The number and the macro's part of each name; names that give no part, or the same one, are a fault."""
+    """The number and the macro's part of each font's or item's name; names that give no part, or the same one, are a fault."""
     seen = {}
-    for number, name in named:
-        word = macro_name(name)
+    for number, part in named:
+        word = macro_name(part.name)
         if not word:
-            raise Problem(f"{kind} {number}: '{name}' gives no name for the header; one in ASCII letters and figures does")
+            raise part.table.problem("name", f"'{part.name}' gives no name for the header; one in ASCII letters and figures does")
         if word in seen:
-            raise Problem(f"{kind} {number}: '{name}' gives the name {word} in the header, as {kind} {seen[word]} does")
+            raise part.table.problem("name", f"'{part.name}' gives the name {word} in the header, as {kind} {seen[word]} does")
         seen[word] = number
         yield number, word

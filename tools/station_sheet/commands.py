@@ -10,10 +10,10 @@ from .describe import describe
 from .description import read_description, sheet_of
 from .difference import differences
 from .explain import explain
-from .files import Files, input_name, standard_output
+from .files import Files, blamed, input_name, is_standard_output, said, write_standard_output
 from .layout import MOST_BYTES, header_of
 from .picture import MOST_SCALE, png, read_page
-from .programs import drawn_page, measured_items
+from .programs import drawn_page, is_there, measured_items
 from .show import show
 from .warning import warnings
 
@@ -24,15 +24,14 @@ STATUSES = """exit status: 0 done, or the sheet is accepted, or two sheets are t
 input or output. docs/REFUSALS.md says what to do about each refusal."""
 
 
-def say(text):
-    print(one_line(text), file=standard_output())
-
-
 def note(text):
-    """A line on standard error; of a very long one the middle is left out."""
+    """A line on standard error, if that takes one; of a very long one the middle is left out."""
     line = one_line(text)
-    if sys.stderr is not None:
-        print(f"sheet: {line if len(line) <= MOST_LINE else line[:MOST_LINE // 2] + ' .. ' + line[-MOST_LINE // 3:]}", file=sys.stderr)
+    try:
+        if sys.stderr is not None:
+            print(f"sheet: {line if len(line) <= MOST_LINE else line[:MOST_LINE // 2] + ' .. ' + line[-MOST_LINE // 3:]}", file=sys.stderr)
+    except OSError:
+        sys.stderr = None
 
 
 def refused(path, refusal):
@@ -58,22 +57,22 @@ def run_new(arguments, files):
             outputs.append((arguments.header, c_header(description, sheet, arguments.header, arguments.description).encode("utf-8")))
     except Problem as problem:
         raise Problem(f"{name}: {problem}", problem.status) from None
-    files.write(outputs)
+    if not any(is_standard_output(path) for path, _ in outputs):
+        named = [f"item {number}: {item.name}" for number, item in enumerate(description.items) if item.name]
+        outputs.append(("-", said([f"{arguments.sheet}: {len(sheet)} bytes", *named])))
+    files.prepare(outputs)
     for line in warnings(description):
         note(f"warning: {name}: {line}")
-    if "-" not in (arguments.sheet, arguments.header):
-        say(f"{arguments.sheet}: {len(sheet)} bytes")
-        for number, item in enumerate(description.items):
-            if item.name:
-                say(f"item {number}: {item.name}")
+    if any(item.text for item in description.items) and not is_there("station_page"):
+        note("target/bin/station_page is missing: 'rt check station_page' makes it, and 'new' then warns of items that paint nothing on the frame")
+    files.finish()
 
 
 def run_show(arguments, files):
     sheet = files.read(arguments.sheet, MOST_BYTES)
     refusal = explain(sheet)
     measured = measured_items(sheet, header_of(sheet).items) if refusal is None else None
-    for line in show(sheet, refusal, measured):
-        say(line)
+    files.say(show(sheet, refusal, measured))
     if refusal is not None:
         raise Problem(refused(arguments.sheet, refusal))
     if measured is None and header_of(sheet).items > 0:
@@ -82,7 +81,7 @@ def run_show(arguments, files):
 
 def run_explain(arguments, files):
     refusal = explain(files.read(arguments.sheet, MOST_BYTES))
-    say(f"{input_name(arguments.sheet)}: accepted" if refusal is None else refused(arguments.sheet, refusal))
+    files.say([f"{input_name(arguments.sheet)}: accepted" if refusal is None else refused(arguments.sheet, refusal)])
     return 0 if refusal is None else 1
 
 
@@ -95,8 +94,7 @@ def run_describe(arguments, files):
 def run_diff(arguments, files):
     sheets = [accepted_sheet(files, path, 2) for path in (arguments.first, arguments.second)]
     lines = list(differences(*sheets))
-    for line in lines:
-        say(line)
+    files.say(lines)
     return 1 if lines else 0
 
 
@@ -119,10 +117,14 @@ def scale(word):
 
 
 class Parser(argparse.ArgumentParser):
-    """A parser whose errors are one line."""
+    """A parser whose errors are one line, also if its help cannot be written."""
 
     def error(self, message):
-        self.exit(2, f"sheet: {one_line(message)}; 'sheet --help' lists the commands\n")
+        raise Problem(f"{message}; 'sheet --help' lists the commands", 2)
+
+    def print_help(self, file=None):
+        with blamed("-"):
+            write_standard_output(self.format_help().encode("utf-8"))
 
 
 def parser():
@@ -151,22 +153,12 @@ def parser():
 
 def main(words):
     """Runs a command; gives the exit status."""
-    arguments = parser().parse_args(words)
-    if sys.stdout is not None:
-        sys.stdout.reconfigure(errors="backslashreplace")
+    files = Files()
     try:
-        status = arguments.run(arguments, Files()) or 0
-        if sys.stdout is not None:
-            sys.stdout.flush()
-        return status
+        arguments = parser().parse_args(words)
+        return arguments.run(arguments, files) or 0
     except Problem as problem:
         note(str(problem))
         return problem.status
-    except OSError as error:
-        # standard output is closed or full: what it still holds goes nowhere
-        os.dup2(os.open(os.devnull, os.O_WRONLY), sys.stdout.fileno())
-        note(f"standard output: {error.strerror}")
-        return 2
-    except KeyboardInterrupt:
-        note("interrupted")
-        return 2
+    finally:
+        files.discard()

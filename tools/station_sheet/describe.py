@@ -20,7 +20,7 @@ def describe(sheet, name):
 def font_part(sheet, number):
     font = font_of(sheet, number)
     atlas, mapping = sheet[font.atlas_at:font.atlas_at + font.atlas_length], sheet[font.mapping_at:font.mapping_at + font.mapping_length]
-    return FontPart(str(number), atlas, mapping, font.replacement, font.atlas_width, tuple(font)[6:14])
+    return FontPart(str(number), atlas, mapping, font.replacement, font.atlas_width, tuple(font)[6:14], None)
 
 
 def item_part(sheet, number):

@@ -7,11 +7,12 @@ from pathlib import Path
 
 from . import Problem
 from .bitmap import bits, parse_font
-from .explain import explain
+from .explain import explain, header_refusals
 from .files import input_name
 from .layout import (ALIGNMENTS, BASELINES, EDITION, FONT_FORM, FONT_SIZE, HEADER_FORM, HEADER_SIZE, HEIGHT_KINDS, ITEM_FORM, ITEM_SIZE,
-                     MOST_ATLAS_WIDTH, MOST_CELL, MOST_HEIGHT, MOST_SIDE, MOST_SLOT, code_point, spelled)
-from .toml_lines import Lines
+                     MOST_ATLAS_WIDTH, MOST_CELL, MOST_FONTS, MOST_HEIGHT, MOST_ITEMS, MOST_SIDE, MOST_SLOT, Header, code_point, font_of,
+                     header_of, spelled)
+from .toml_lines import MOST_PARTS, Lines, long_key
 
 GREYS = ("text_grey", "background_grey")
 DECORATIONS = ("underline", "strikethrough")
@@ -23,10 +24,10 @@ ATLAS_KEYS = {"name", "cell", "spacing", "baseline", "strikethrough", "underline
 WIDEST_FIELD = 65_535
 FIRST_PLACE, LAST_PLACE = -32_768, 32_767
 
-# What a description says. A font's numbers are those of its record after the atlas's width; an item's layout is its alignment, baseline,
-# height kind and height value.
-Description = namedtuple("Description", "frame fonts items warnings")
-FontPart = namedtuple("FontPart", "name atlas mapping replacement atlas_width numbers")
+# What a description says, and the lines of its text. A font's numbers are those of its record after the atlas's width; an item's layout is
+# its alignment, baseline, height kind and height value. The table is None for what was read from a sheet.
+Description = namedtuple("Description", "frame fonts items warnings lines")
+FontPart = namedtuple("FontPart", "name atlas mapping replacement atlas_width numbers table")
 ItemPart = namedtuple("ItemPart", "name place text slot font style layout table")
 
 
@@ -96,6 +97,8 @@ def read_description(files, path):
     """The parts of a description."""
     name = input_name(path)
     text = files.read_text(path)
+    if (line := long_key(text)) is not None:
+        raise Problem(f"{name}: line {line}: no description: a key has more than {MOST_PARTS} parts")
     try:
         entries = tomllib.loads(text)
     except tomllib.TOMLDecodeError as error:
@@ -121,7 +124,7 @@ def read_parts(top, files, folder):
     size = frame.number("width", 1, MOST_SIDE), frame.number("height", 1, MOST_SIDE), frame.number("paper", 0, 255)
     fonts = [read_font(table, files, folder, warnings) for table in top.tables("font", "font", BITMAP_KEYS | ATLAS_KEYS)]
     names = [font.name for font in fonts]
-    warnings += [f"font {k}: the name '{name}' is that of font {names.index(name)}, which items with this name get"
+    warnings += [f"{fonts[k].table.where('name')}: the name '{name}' is that of font {names.index(name)}, which items with this name get"
                  for k, name in enumerate(names) if names.index(name) != k]
     if not isinstance(top.entries.get("style", {}), dict):
         raise top.problem("style", "write a style as [style.NAME]")
@@ -129,7 +132,7 @@ def read_parts(top, files, folder):
               for name, entries in top.entries.get("style", {}).items()}
     items = [read_item(table, fonts, styles) for table in top.tables("item", "item", ITEM_KEYS)]
     warnings += same_names(items)
-    return Description(size, fonts, items, warnings)
+    return Description(size, fonts, items, warnings, top.lines)
 
 
 def same_names(items):
@@ -164,11 +167,13 @@ def read_font(table, files, folder, warnings):
     width, atlas = font.atlas(columns)
     words = font.words
     numbers = (*words["cell"], *words["spacing"], *words["baseline"], *words["strikethrough"], *words["underline"])
-    if len(font.glyphs) > WIDEST_FIELD:
-        raise table.problem("file", "the font has too many glyphs")
-    replacement = table.number("replacement", 0, WIDEST_FIELD, font.replacement_index())
+    replacement = table.entries.get("replacement", font.replacement_index())
+    if "replacement" not in table and replacement > WIDEST_FIELD:
+        raise table.problem("bitmap" if "bitmap" in table else "file",
+                            f"the replacement's index is {replacement}, above {WIDEST_FIELD}: the font needs a replacement among its first glyphs")
+    replacement = table.whole("replacement", replacement, 0, WIDEST_FIELD)
     mapping = table.string("mapping").encode("utf-8") if "mapping" in table else font.mapping()
-    return finished_font(table, FontPart(table.string("name", str(table.path[1])), atlas, mapping, replacement, width, numbers))
+    return finished_font(table, FontPart(table.string("name", str(table.path[1])), atlas, mapping, replacement, width, numbers, table))
 
 
 def read_atlas_font(table):
@@ -190,7 +195,7 @@ def read_atlas_font(table):
     numbers = (*cell, table.number("spacing", 0, MOST_CELL, 0), table.number("baseline", 0, 255, 0), *table.pair("strikethrough", 255, (0, 0)),
                *table.pair("underline", 255, (0, 0)))
     part = FontPart(table.string("name", str(table.path[1])), b"".join(data) + bytes.fromhex(tail), table.string("mapping").encode("utf-8"),
-                    table.number("replacement", 0, WIDEST_FIELD), width, numbers)
+                    table.number("replacement", 0, WIDEST_FIELD), width, numbers, table)
     return finished_font(table, part)
 
 
@@ -235,7 +240,15 @@ def read_style(table, fonts):
             said[key] = table.choice(key, among)
     if "line_height" in table:
         said["line_height"] = line_height(table)
+    refuse_both(table, said)
     return said
+
+
+def refuse_both(table, said):
+    """Refuses a grey that is set, and stored as one that is not used as well."""
+    for key, unused in UNUSED.items():
+        if unused in said and isinstance(said.get(key), int):
+            raise table.problem(unused if unused in table else key, f"'{unused}' is for a grey that is not used, and '{key}' is set")
 
 
 def line_height(table):
@@ -256,6 +269,7 @@ def read_item(table, fonts, styles):
     if "style" in table and style not in styles:
         raise table.problem("style", f"there is no style '{style}'")
     said = {**styles.get(style, {}), **read_style(table, [font.name for font in fonts])}
+    refuse_both(table, said)
     text = item_text(table)
     slot = table.number("slot", 0, MOST_SLOT, min(len(text), MOST_SLOT))
     if len(text) > slot:
@@ -267,11 +281,11 @@ def read_item(table, fonts, styles):
         raise table.problem("missing_glyphs", "'missing_glyphs' is true or false")
     missing = [c for c in dict.fromkeys(text.decode("utf-8")) if c not in "\n\r" and not lists(fonts[font], ord(c))]
     if missing and not table.entries.get("missing_glyphs"):
-        raise table.problem("text", f"font '{fonts[font].name}' has no glyph for {code_point(ord(missing[0]))} ({missing[0]!r}); "
-                                    "with 'missing_glyphs = true' its replacement is taken")
+        raise table.problem("lines" if "lines" in table else "text", f"font '{fonts[font].name}' has no glyph for {code_point(ord(missing[0]))} "
+                                                                     f"({missing[0]!r}); with 'missing_glyphs = true' its replacement is taken")
     place = table.number("x", FIRST_PLACE, LAST_PLACE), table.number("y", FIRST_PLACE, LAST_PLACE)
     layout = said.get("alignment", 0), said.get("baseline", 0), *said.get("line_height", (HEIGHT_KINDS.index("percent"), 100))
-    return ItemPart(table.string("name", ""), place, text, slot, font, style_bytes(table, said), layout, table)
+    return ItemPart(table.string("name", ""), place, text, slot, font, style_bytes(said), layout, table)
 
 
 def item_text(table):
@@ -283,17 +297,15 @@ def item_text(table):
     return table.string("text").encode("utf-8")
 
 
-def style_bytes(table, said):
+def style_bytes(said):
     """Bytes 13 to 20 of an item: text, background, underline and strikethrough, each a mode and a grey."""
     data = []
     for key in (*GREYS, *DECORATIONS):
-        value, unused = said.get(key), said.get(UNUSED[key])
-        if unused is not None and isinstance(value, int):
-            raise table.problem(UNUSED[key], f"'{UNUSED[key]}' is for a grey that is not used, and '{key}' is set")
+        value = said.get(key)
         if isinstance(value, int):
             data += [1 if key in GREYS else 2, value]
         else:
-            data += [0 if value is None else 1, unused or 0]
+            data += [0 if value is None else 1, said.get(UNUSED[key], 0)]
     return bytes(data)
 
 
@@ -301,17 +313,31 @@ def style_bytes(table, said):
 
 def sheet_of(description):
     """The sheet's bytes."""
-    sheet = assemble(description.frame, description.fonts, description.items)
-    refusal = explain(sheet)
+    header = Header(EDITION, *description.frame, len(description.fonts), len(description.items), 0, 0, 0, 0)
+    refusal, sheet = next(header_refusals(header), None), b""
+    if refusal is None:
+        sheet = assemble(description.frame, description.fonts, description.items)
+        refusal = explain(sheet)
     if refusal is not None:
-        raise Problem(f"the sheet would be refused with {refusal.number}: {refusal.cause}")
+        line = description.lines.of(blamed_path(sheet, refusal))
+        raise Problem(f"{f'line {line}: ' if line else ''}the sheet would be refused with {refusal.number}: {refusal.cause}")
     return sheet
+
+
+def blamed_path(sheet, refusal):
+    """The path of what a refusal is about; of the sheet as a whole it is empty."""
+    if refusal.number == 3:
+        return "frame", "width"
+    if refusal.number == 4:
+        return ("font", MOST_FONTS) if refusal.byte == 7 else ("item", MOST_ITEMS)
+    if refusal.number == 8:
+        fonts = [font_of(sheet, number) for number in range(header_of(sheet).fonts)]
+        return "font", next(k for k, font in enumerate(fonts) if 0 <= refusal.byte - font.mapping_at < font.mapping_length), "mapping"
+    return ()
 
 
 def assemble(frame, fonts, items):
     """Header, records, then each font's atlas and mapping and each item's slot, without gaps."""
-    if len(fonts) > 255 or len(items) > WIDEST_FIELD:
-        raise Problem("there are too many fonts or items")
     at = HEADER_SIZE + FONT_SIZE * len(fonts) + ITEM_SIZE * len(items)
     records, pieces = [], []
     for font in fonts:

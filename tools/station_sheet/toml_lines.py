@@ -1,9 +1,13 @@
-"""The lines of a TOML text on which its tables and keys stand. The text is one that tomllib has read."""
+"""The lines of a TOML text on which its tables and keys stand. The text is one that tomllib has read, but for 'long_key'."""
 import re
 import tomllib
 
 PART = r"""(?:[A-Za-z0-9_-]+|"(?:\\.|[^"\\])*"|'[^']*')"""
 KEY = re.compile(rf"{PART}(?:\s*\.\s*{PART})*(?=\s*=)")
+STRING = re.compile(r""""(?:\\.|[^"\\])*+"|'[^']*+'""")
+# More parts than a key of a description has; for thousands of them tomllib takes hours.
+MOST_PARTS = 16
+LONG_KEY = re.compile(rf"(?<![\w-])(?:(?:[A-Za-z0-9_-]++|{STRING.pattern})[ \t]*+\.[ \t]*+){{{MOST_PARTS}}}")
 
 
 class Lines:
@@ -59,24 +63,47 @@ def statements(text):
 
 def after_line(line, depth, quote):
     """How many brackets are open after a line, and the quotes of a string that goes on."""
-    at = 0
+    bare, quote = without_strings(line, quote)
+    return depth + sum(map(bare.count, "[{")) - sum(map(bare.count, "]}")), quote
+
+
+def without_strings(line, quote):
+    """A line with "" in the place of each string, and without its comment; and the quotes of a string that goes on."""
+    at, bare = 0, []
     while at < len(line):
         if quote is not None:
-            if line.startswith(quote, at):
-                at += 3
-                while line.startswith(quote[0], at):
-                    at += 1
-                quote = None
-            else:
-                at += 2 if quote == '"""' and line[at] == "\\" else 1
+            at, quote = in_string(line, at, quote)
         elif line[at] == "#":
             break
         elif line.startswith(('"""', "'''"), at):
             quote, at = line[at:at + 3], at + 3
         elif line[at] in "\"'":
-            string = re.compile(r'"(?:\\.|[^"\\])*"' if line[at] == '"' else r"'[^']*'").match(line, at)
+            string = STRING.match(line, at)
             at = string.end() if string else len(line)
+            bare.append('""')
         else:
-            depth += (line[at] in "[{") - (line[at] in "]}")
+            bare.append(line[at])
             at += 1
-    return depth, quote
+    return "".join(bare), quote
+
+
+def in_string(line, at, quote):
+    """Where a string of several lines goes on or has ended, and its quotes if it goes on."""
+    if not line.startswith(quote, at):
+        return at + (2 if quote == '"""' and line[at] == "\\" else 1), quote
+    at += 3
+    while line.startswith(quote[0], at):
+        at += 1
+    return at, None
+
+
+def long_key(text):
+    """The first line with a key of more parts than any description has, or None. The text need not be TOML."""
+    if LONG_KEY.search(text) is None:
+        return None
+    quote = None
+    for number, line in enumerate(text.split("\n"), 1):
+        bare, quote = without_strings(line, quote)
+        if LONG_KEY.search(bare):
+            return number
+    return None
