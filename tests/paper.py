@@ -997,7 +997,7 @@ def lines_and_comments(path):
 def references():
     bad = []
     for path in tracked():
-        if path in (PAPER, DEMANDS, "docs/DECISIONS.md", "tests/paper.py"):
+        if path in (PAPER, DEMANDS, "tests/paper.py"):
             continue
         with open(path, encoding="utf-8", errors="replace") as f:
             named = DEMANDS in f.read()
