@@ -8,16 +8,17 @@ use Prim.Native.Nat.{ℕ, zero, suc, _+_, _-_, _<_, _≤_, min, max}
 use native.Mathlib.Numerals.{add-one}
 use native.Mathlib.Omega.{arith}
 use native.Mathlib.Decide.{decLt}
-use borrow.Author.Tests.{ne-eqb, eqb-true, leb-true, ltb-true, not-false}
+use borrow.Author.Tests.{ne-eqb, eqb-true, not-false}
 use lib.ListN.{length, getD, List·getD-eq-default}
 use mir.Val.{Fits}
 use mir.Syntax.{w8, w64}
-use lib.Dec.{eqb, leb}
+use lib.Dec.{eqb}
 use Rattle.characters.specs.Utf8.{isContinuation}
 use Rattle.mapping.specs.declared.search.Needle.{Needle}
 use Rattle.mapping.specs.declared.search.Block.{Block}
 use Rattle.mapping.specs.declared.search.Passed.{Passed}
 use Rattle.mapping.specs.Search.{isLead, leads, mayBegin, mayBeginAt, before, needleOf, OfBlock, OfHit, Below, SkipsBelow, Passes, Skips, IsNeedle}
+use Rattle.mapping.proofs.Sequences.{continues}
 
 -- past the end
 pub byte-past : (s : List ℕ) (at by : ℕ) → length s - at ≤ by → 0 ≡ getD s (at + by) 0
@@ -170,15 +171,9 @@ before-less p a b c d l = begins-not p a b c d (λ z. omega arith) (λ z. omega 
 
 -- ---- bytes below a limit
 
-continued : (b : ℕ) → isLead b ≡ false → (0x80 ≤ b) × (b < 0xC0)
-unfolding isLead isContinuation
-continued b f =
-    let p = and-eq-true-iff (leb 0x80 b) _ .0 (not-false _ f) in
-    (leb-true _ _ (p .0), ltb-true _ _ (p .1))
-
 before-continued : (limit b : ℕ) → 0xC0 ≤ limit → Fits w8 limit → isLead b ≡ false → before b < before limit
-unfolding before
-before-continued limit b m n f = let c = continued b f in omega arith
+unfolding before isLead
+before-continued limit b m n f = let c = continues b (not-false _ f) in omega arith
 
 module _ (s : List ℕ) (limit from : ℕ) where
   pub below-none : from ≤ length s → Below s limit from (record { at = from; count = 0 })

@@ -18,7 +18,7 @@ use Rattle.mapping.specs.Search.{isLead, needleOf, IsNeedle}
 
 -- ---- bytes
 
-continues : (b : ℕ) → isContinuation b ≡ true → (0x80 ≤ b) × (b < 0xC0)
+pub continues : (b : ℕ) → isContinuation b ≡ true → (0x80 ≤ b) × (b < 0xC0)
 unfolding isContinuation
 continues b e = let p = and-eq-true-iff (leb 0x80 b) _ .0 e in (leb-true _ _ (p .0), ltb-true _ _ (p .1))
 

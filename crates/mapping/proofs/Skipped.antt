@@ -148,6 +148,9 @@ module _ (s : List ℕ) (ch from : ℕ) (r : Passed) (g : Skips s (needleOf ch) 
       → (most k : ℕ) (f : Found) → atMost most (placeFrom k ch (spelled (charsFrom s from))) ≡ f → Nothing ≡ f
   skip-stopped e t most k f h = find-stopped s (r .at) e t most _ ch f (rw (rest .placed k) at h)
 
+pub resumes-here : (s : List ℕ) (ch from k : ℕ) → ListFrom s from → k ≤ 65_536 → Resumes s ch from k (record { at = from; count = k })
+resumes-here s ch from k l h = record { list = l; small = h; placed = refl }
+
 -- after what was passed over, counted from as many as that has
 pub resumes : (s : List ℕ) (ch from : ℕ) (r : Passed) → Skips s (needleOf ch) from r → ListFrom s from → (k m j : ℕ) → m ≡ min (r .count) 65_536
     → j ≡ min (k + m) 65_536 → Resumes s ch from k (record { at = r .at; count = j })

@@ -157,6 +157,9 @@ fn resume(mapping: &[u8], from: usize, lead: u8, below: Passed, count: u64, ch: 
     requires { ⌜ count ≤ 65_536 ⌝ }
     ensures { λ r. ⌜ Resumes (now (mapping .entry)) ch from count r ⌝ }
 {
+    if below.at <= from {
+        return Passed { at: from, count };
+    }
     let passed = search::passed_for(mapping, from, lead, below, ch);
     let more = at_most(passed.count, 65536);
     let counted = at_most(count + more, 65536);

@@ -276,16 +276,13 @@ pub fn pass_below(mapping: &[u8], from: usize, lead: u8) -> Passed
 pub fn passed_for(mapping: &[u8], from: usize, lead: u8, passed: Passed, ch: u32) -> Passed
     requires { ⌜ ListFrom (now mapping) from ⌝ }
     requires { ⌜ SkipsBelow (now mapping) lead from passed ⌝ }
+    requires { ⌜ from < passed .at ⌝ }
     ensures { λ r. ⌜ Skips (now (mapping .entry)) (needleOf ch) from r ⌝ }
 {
-    let nothing = Passed { at: from, count: 0 };
-    if passed.at <= from {
-        return nothing;
-    }
     if before(lead) <= before(lead_of(ch)) {
         return passed;
     }
-    nothing
+    Passed { at: from, count: 0 }
 }
 
 // Passes over bytes with which neither a range nor the character begins.

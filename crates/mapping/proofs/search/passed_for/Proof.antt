@@ -5,9 +5,6 @@ use borrow.Author.Needs.{needs}
 use Rattle.mapping.proofs.search.passed_for.Statement.{statement}
 use Rattle.mapping.proofs.search.passed_for.Tie as tie
 
-returns : tie.Need-returns
-returns c = search skips-none
-
 before-requires : tie.Need-before-requires
 before-requires c κs = search needs
 
@@ -17,13 +14,13 @@ lead-of-requires c κs = search needs
 before-requires-2 : tie.Need-before-requires-2
 before-requires-2 c κs = search needs
 
-returns-2 : tie.Need-returns-2
-returns-2 c = search skips-from
+returns : tie.Need-returns
+returns c = search skips-from
 
-returns-3 : tie.Need-returns-3
-returns-3 c = search skips-none
+returns-2 : tie.Need-returns-2
+returns-2 c = search skips-none
 
 pub passed-for-spec : {M : Type 1} → statement M
 passed-for-spec =
     tie.close
-    (tie.spec returns before-requires lead-of-requires before-requires-2 returns-2 returns-3)
+    (tie.spec before-requires lead-of-requires before-requires-2 returns returns-2)
