@@ -2,10 +2,10 @@
 -- Assumes nothing.
 -- Serves contracts: nothing here has to be believed.
 use Prim.Native.Nat.{ℕ, _≤_}
-use mathlib.Core.Path.{_≡_}
 use mathlib.Core.List.{List}
 use lib.ListN.{length}
-use Rattle.mapping.specs.Entries.{entryAt, WithinLimit}
+use Rattle.mapping.specs.Entries.{WithinLimit}
+use Rattle.mapping.specs.Search.{StartOf}
 use Rattle.atlas.specs.Row.{CellsOf}
 use Rattle.line.specs.declared.DecorationDimensions.{DecorationDimensions}
 use Rattle.line.specs.declared.MonoFont.{MonoFont}
@@ -29,7 +29,7 @@ pub record LineStyleOf (atlas mapping : List ℕ) (s : LineStyle) : Type 0 where
   pub limits : FontLimits (s .font)
   pub mapping-limit : WithinLimit mapping
   pub cells : CellsOf (s .font .atlas) (length atlas) (s .cells)
-  pub first : s .first ≡ entryAt mapping 0
+  pub start : StartOf mapping (s .start)
 
 -- n bytes of text
 pub record LengthLimit (n : ℕ) : Type 0 where

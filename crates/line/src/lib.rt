@@ -9,7 +9,7 @@ use geometry::OptionalGrey;
 use geometry::Point;
 use geometry::Rectangle;
 use geometry::numbers::minus;
-use mapping::Entry;
+use mapping::Start;
 pub use measuring::advance;
 pub use measuring::baseline_offset;
 pub use measuring::ink_box;
@@ -45,13 +45,13 @@ pub struct MonoFont {
     pub underline: DecorationDimensions,
 }
 
-// What the glyphs of a line are drawn with: its colours and its font, how the font's atlas holds the glyphs, and the first entry
-// of the font's mapping.
+// What the glyphs of a line are drawn with: its colours and its font, how the font's atlas holds the glyphs, and where the search
+// in the font's mapping starts.
 struct LineStyle {
     colors: MonoTextStyle,
     font: MonoFont,
     cells: Cells,
-    first: Entry,
+    start: Start,
 }
 
 // The colour of a decoration.
@@ -142,8 +142,8 @@ fn draw_character(
     let text = colors.text_color;
     let background = colors.background_color;
     geometry::fill(frame, target, area, background);
-    let first = style.first;
-    let index = mapping::index_with(mapping, first, font.replacement_index, ch);
+    let start = style.start;
+    let index = mapping::index_with(mapping, start, font.replacement_index, ch);
     let cells = style.cells;
     let greys = GlyphColors { text, background };
     let x = corner.x + gap;
@@ -210,7 +210,7 @@ fn draw_characters(
             colors: style,
             font,
             cells: atlas::cells_of(atlas.len(), image),
-            first: mapping::first_entry(mapping),
+            start: mapping::start_of(mapping, text),
         };
         return draw_glyphs(frame, target, atlas, mapping, text, prepared, corner);
     }

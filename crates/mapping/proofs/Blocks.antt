@@ -8,7 +8,7 @@ use Prim.Native.Nat.{ℕ, zero, suc, _+_, _-_, _<_, _≤_, min, max}
 use native.Mathlib.Numerals.{add-one}
 use native.Mathlib.Omega.{arith}
 use native.Mathlib.Decide.{decLt}
-use borrow.Author.Tests.{ne-eqb, eqb-true}
+use borrow.Author.Tests.{ne-eqb, eqb-true, not-false}
 use lib.ListN.{length, getD, List·getD-eq-default}
 use mir.Val.{Fits}
 use mir.Syntax.{w8, w64}
@@ -17,7 +17,8 @@ use Rattle.characters.specs.Utf8.{isContinuation}
 use Rattle.mapping.specs.declared.search.Needle.{Needle}
 use Rattle.mapping.specs.declared.search.Block.{Block}
 use Rattle.mapping.specs.declared.search.Passed.{Passed}
-use Rattle.mapping.specs.Search.{isLead, leads, mayBegin, mayBeginAt, before, OfBlock, OfHit, Passes, Skips, IsNeedle}
+use Rattle.mapping.specs.Search.{isLead, leads, mayBegin, mayBeginAt, before, needleOf, OfBlock, OfHit, Below, SkipsBelow, Passes, Skips, IsNeedle}
+use Rattle.mapping.proofs.Sequences.{continues}
 
 -- past the end
 pub byte-past : (s : List ℕ) (at by : ℕ) → length s - at ≤ by → 0 ≡ getD s (at + by) 0
@@ -46,10 +47,29 @@ leads-append s at m (suc n) =
     let f : at + (m + n) ≡ at + m + n = omega arith in
     rw (e, f) (omega (arith, leads-append s at m n))
 
+leads-none : (s : List ℕ) (at n : ℕ) → ((j : ℕ) → j < n → isLead (getD s (at + j) 0) ≡ false) → leads s at n ≡ 0
+unfolding leads
+leads-none s at zero c = refl
+leads-none s at (suc n) c = rw (leads-none s at n (λ j l. c j (omega arith)), c n (omega arith))
+
 module _ (s : List ℕ) (at : ℕ) where
   pub leads-start : 0 ≡ leads s at 0
   unfolding leads
   leads-start = refl
+
+  leads-none-yet : 0 ≡ leads s at (at - at)
+  unfolding leads
+  leads-none-yet = let e : at - at ≡ 0 = omega arith in rw e
+
+  -- n bytes more
+  leads-on : (to k n v : ℕ) → at ≤ to → k ≡ leads s at (to - at) → v ≡ leads s to n → k + v ≡ leads s at (to + n - at)
+  leads-on to k n v h e f =
+      let split : to + n - at ≡ (to - at) + n = omega arith in
+      let i : at + (to - at) ≡ to = omega arith in
+      rw (split, leads-append s at (to - at) n, i) (omega arith)
+
+  leads-fit : (to k n v : ℕ) → at ≤ to → k ≡ leads s at (to - at) → v ≤ n → to + n ≤ length s → Fits w64 (length s) → Fits w64 (k + v)
+  leads-fit to k n v h e l m f = omega (arith, leads-le s at (to - at))
 
   pub counted-start : (n : ℕ) → 0 ≡ leads s at (min 0 n)
   unfolding leads
@@ -149,39 +169,100 @@ before-less : (p : Needle) (a b c d : ℕ) → before a < before (p .lead) → m
 unfolding before
 before-less p a b c d l = begins-not p a b c d (λ z. omega arith) (λ z. omega arith)
 
-module _ (s : List ℕ) (p : Needle) (from : ℕ) where
-  pub passes-none : from ≤ length s → Passes s p from (record { at = from; count = 0 })
-  unfolding leads
-  passes-none h =
-      let e : from - from ≡ 0 = omega arith in
-      record { forward = omega arith; within = h; counted = rw e; clear = λ q a b. absurd (omega arith) }
+-- ---- bytes below a limit
 
-  module _ (at k : ℕ) (g : Passes s p from (record { at = at; count = k })) where
-    passes-fits : (n v : ℕ) → v ≤ n → at + n ≤ length s → Fits w64 (length s) → Fits w64 (k + v)
-    passes-fits n v l h f = omega (arith, leads-le s from (at - from))
+before-continued : (limit b : ℕ) → 0xC0 ≤ limit → Fits w8 limit → isLead b ≡ false → before b < before limit
+unfolding before isLead
+before-continued limit b m n f = let c = continues b (not-false _ f) in omega arith
 
-    passes-more : (n v : ℕ) → at + n ≤ length s → v ≡ leads s at n → ((j : ℕ) → j < n → mayBeginAt s p (at + j) ≡ false)
-        → Passes s p from (record { at = at + n; count = k + v })
-    passes-more n v h e c =
-        let split : at + n - from ≡ (at - from) + n = omega arith in
-        let i : from + (at - from) ≡ at = omega arith in
+module _ (s : List ℕ) (limit from : ℕ) where
+  pub below-none : from ≤ length s → Below s limit from (record { at = from; count = 0 })
+  below-none h = record { forward = omega arith; within = h; counted = leads-none-yet s from; low = λ q a b. absurd (omega arith) }
+
+  module _ (at k : ℕ) (g : Below s limit from (record { at = at; count = k })) (b : Block) (o : OfBlock s at b) (h : 128 ≤ length s - at) (v : ℕ) (w : v ≡ b .leads) where
+    pub below-block : (m : ℕ) → m ≡ before limit → b .most < m → Below s limit from (record { at = at + 128; count = k + v })
+    below-block m e l = record {
+      forward = omega arith;
+      within = omega arith;
+      counted = leads-on s from at k 128 v (g .forward) (g .counted) (w ∙ o .counted);
+      low = λ q x y. elim (decLt q at) [
+        | yes z ↦ g .low q x z
+        | no z ↦ (
+            let j : at + (q - at) ≡ q = omega arith in
+            let i : before (getD s q 0) ≤ b .most = rw j at (o .bounded (q - at) (omega arith)) in
+            omega arith
+            )
+      ];
+    }
+
+    pub block-fits : Fits w64 (length s) → Fits w64 (k + v)
+    block-fits f = leads-fit s from at k 128 v (g .forward) (g .counted) (omega (arith, leads-le s at 128, o .counted)) (omega arith) f
+
+  module _ (r : Passed) (g : Below s limit from r) where
+    below-passes : (p : Needle) → before limit ≤ before (p .lead) → Passes s p from r
+    below-passes p h = record {
+      forward = g .forward;
+      within = g .within;
+      counted = g .counted;
+      clear = λ q x y. before-less p _ _ _ _ (omega (arith, g .low q x y));
+    }
+
+  pub skips-below-none : from ≤ length s → SkipsBelow s limit from (record { at = from; count = 0 })
+  skips-below-none h = record { below = below-none h; boundary = λ l. absurd (omega arith) }
+
+  -- for a character whose sequence begins with the limit or a higher byte
+  pub skips-from : (r : Passed) → SkipsBelow s limit from r → (ch lead x y : ℕ) → lead ≡ needleOf ch .lead → x ≡ before limit → y ≡ before lead
+      → from < r .at → x ≤ y → Skips s (needleOf ch) from r
+  skips-from r g ch lead x y e f i h l =
+      record { passes = below-passes r (g .below) (needleOf ch) (rw (← e, ← f, ← i) l); boundary = g .boundary h }
+
+  module _ (at k : ℕ) (g : Below s limit from (record { at = at; count = k })) where
+    -- a byte that continues a sequence is below every byte with which one of several begins
+    pub below-more : (t : Bool) → 0xC0 ≤ limit → Fits w8 limit → at < length s → t ≡ isLead (getD s at 0) → t ≡ false → Below s limit from (record { at = at + 1; count = k })
+    below-more t m n h e f =
+        let z : at + 0 ≡ at = omega arith in
+        let none : 0 ≡ leads s at 1 = sym (leads-none s at 1 (λ j l. let i : j ≡ 0 = omega arith in rw (i, z) (sym e ∙ f))) in
+        let i : k + 0 ≡ k = omega arith in
         record {
           forward = omega arith;
-          within = h;
-          counted = rw (split, leads-append s from (at - from) n, i) (omega arith);
-          clear = λ q a b. elim (decLt q at) [
-            | yes l ↦ g .clear q a l
-            | no l ↦ let j : at + (q - at) ≡ q = omega arith in rw j at (c (q - at) (omega arith))
+          within = omega arith;
+          counted = rw i at (leads-on s from at k 1 0 (g .forward) (g .counted) none);
+          low = λ q x y. elim (decLt q at) [
+            | yes l ↦ g .low q x l
+            | no l ↦ let j : q ≡ at = omega arith in rw j (before-continued limit (getD s at 0) m n (sym e ∙ f))
           ];
         }
 
-    pub passes-block : (b : Block) (limit v : ℕ) → OfBlock s at b → limit ≡ before (p .lead) → b .most < limit → 128 ≤ length s - at → v ≡ b .leads
-        → Passes s p from (record { at = at + 128; count = k + v })
-    passes-block b limit v o e l h w =
-        passes-more 128 v (omega arith) (w ∙ o .counted) (λ j m. before-less p _ _ _ _ (omega (arith, o .bounded j m)))
+    pub below-lead : (t : Bool) → t ≡ isLead (getD s at 0) → t ≡ true → SkipsBelow s limit from (record { at = at; count = k })
+    below-lead t e y = record { below = g; boundary = λ l h. sym e ∙ y }
 
-    pub block-fits : (b : Block) (v : ℕ) → OfBlock s at b → 128 ≤ length s - at → v ≡ b .leads → Fits w64 (length s) → Fits w64 (k + v)
-    block-fits b v o h w f = passes-fits 128 v (omega (arith, leads-le s at 128, o .counted)) (omega arith) f
+    pub below-past : length s ≤ at → SkipsBelow s limit from (record { at = at; count = k })
+    below-past h = record { below = g; boundary = λ l m. absurd (omega arith) }
+
+pub passes-lead : (s : List ℕ) (p : Needle) (from : ℕ) (r : Passed) → Below s (p .lead) from r → Passes s p from r
+passes-lead s p from r g = below-passes s (p .lead) from r g p (omega arith)
+
+-- ---- bytes with which nothing begins
+
+module _ (s : List ℕ) (p : Needle) (from : ℕ) where
+  pub passes-none : from ≤ length s → Passes s p from (record { at = from; count = 0 })
+  passes-none h = record { forward = omega arith; within = h; counted = leads-none-yet s from; clear = λ q a b. absurd (omega arith) }
+
+  module _ (at k : ℕ) (g : Passes s p from (record { at = at; count = k })) where
+    passes-fits : (n v : ℕ) → v ≤ n → at + n ≤ length s → Fits w64 (length s) → Fits w64 (k + v)
+    passes-fits n v l h f = leads-fit s from at k n v (g .forward) (g .counted) l h f
+
+    passes-more : (n v : ℕ) → at + n ≤ length s → v ≡ leads s at n → ((j : ℕ) → j < n → mayBeginAt s p (at + j) ≡ false)
+        → Passes s p from (record { at = at + n; count = k + v })
+    passes-more n v h e c = record {
+      forward = omega arith;
+      within = h;
+      counted = leads-on s from at k n v (g .forward) (g .counted) e;
+      clear = λ q a b. elim (decLt q at) [
+        | yes l ↦ g .clear q a l
+        | no l ↦ let j : at + (q - at) ≡ q = omega arith in rw j at (c (q - at) (omega arith))
+      ];
+    }
 
     pub through-fits : (u v : ℕ) → u ≡ leads s at 64 → v ≡ u → 67 ≤ length s - at → Fits w64 (length s) → Fits w64 (k + v)
     through-fits u v e w h f = passes-fits 64 v (omega (arith, leads-le s at 64)) (omega arith) f
@@ -220,30 +301,24 @@ module _ (s : List ℕ) (p : Needle) (from : ℕ) (g r : Passed) (a : Passes s p
   pub join-fits : Fits w64 (length s) → Fits w64 (g .count + r .count)
   join-fits f =
       let c = b .passes in
-      omega (arith, leads-le s from (g .at - from), leads-le s (g .at) (r .at - g .at))
+      leads-fit s from (g .at) (g .count) (r .at - g .at) (r .count) (a .forward) (a .counted) (omega (arith, leads-le s (g .at) (r .at - g .at))) (omega arith) f
 
   -- what was passed over one after the other
-  pub skips-join : (k : ℕ) → k ≡ g .count + r .count → Skips s p from (record { at = r .at; count = k })
-  skips-join k e =
+  pub skips-join : Skips s p from (record { at = r .at; count = g .count + r .count })
+  skips-join =
       let c = b .passes in
-      let split : r .at - from ≡ (g .at - from) + (r .at - g .at) = omega arith in
-      let j : from + (g .at - from) ≡ g .at = omega arith in
+      let j : g .at + (r .at - g .at) ≡ r .at = omega arith in
       record {
         passes = record {
           forward = omega arith;
           within = c .within;
-          counted = rw (split, leads-append s from (g .at - from) (r .at - g .at), j) (omega arith);
+          counted = rw j at (leads-on s from (g .at) (g .count) (r .at - g .at) (r .count) (a .forward) (a .counted) (c .counted));
           clear = λ q x y. elim (decLt q (g .at)) [ yes l ↦ a .clear q x l | no l ↦ c .clear q (omega arith) y ];
         };
         boundary = b .boundary;
       }
 
 -- ---- the lead byte of a sequence
-
-leads-none : (s : List ℕ) (at n : ℕ) → ((j : ℕ) → j < n → isLead (getD s (at + j) 0) ≡ false) → leads s at n ≡ 0
-unfolding leads
-leads-none s at zero c = refl
-leads-none s at (suc n) c = rw (leads-none s at n (λ j l. c j (omega arith)), c n (omega arith))
 
 pub leads-one : (s : List ℕ) (at n : ℕ) → isLead (getD s at 0) ≡ true → ((j : ℕ) → j < n → isLead (getD s (at + 1 + j) 0) ≡ false) → leads s at (1 + n) ≡ 1
 unfolding leads

@@ -76,18 +76,13 @@ module _ (mapping : List ℕ) (replacement ch : ℕ) where
       by (At k) p e = omega (arith, place-below 0 ch (listOf mapping) p)
       by Nothing p e = absurd (true≢false (sym e))
 
--- ---- what no refusal gives
+-- ---- a mapping whose refusal was found to be none
 
-pub accepted : (mapping : List ℕ) → refusal mapping ≡ 0 → (wellFormed mapping ≡ true) × WithinLimit mapping
+pub accepted-within : (mapping : List ℕ) (n : ℕ) → n ≡ refusal mapping → n ≡ 0 → WithinLimit mapping
 unfolding refusal
-accepted mapping e = by (wellFormed mapping) (leb (length (listOf mapping)) 65_536) refl refl e
+accepted-within mapping n e z = by (wellFormed mapping) (leb (length (listOf mapping)) 65_536) refl refl (sym e ∙ z)
   where
-    by : (w l : Bool) → wellFormed mapping ≡ w → leb (length (listOf mapping)) 65_536 ≡ l → need w 7 (need l 8 0) ≡ 0
-        → (wellFormed mapping ≡ true) × WithinLimit mapping
-    by true true p q z = (p, record { well = p; spelled = leb-true _ _ q })
+    by : (w l : Bool) → wellFormed mapping ≡ w → leb (length (listOf mapping)) 65_536 ≡ l → need w 7 (need l 8 0) ≡ 0 → WithinLimit mapping
+    by true true p q z = record { well = p; spelled = leb-true _ _ q }
     by true false p q z = absurd (omega arith)
     by false l p q z = absurd (omega arith)
-
--- a mapping whose refusal was found to be none
-pub accepted-within : (mapping : List ℕ) (n : ℕ) → n ≡ refusal mapping → n ≡ 0 → WithinLimit mapping
-accepted-within mapping n e z = accepted mapping (sym e ∙ z) .1

@@ -19,7 +19,10 @@ use Rattle.mapping.specs.declared.Entry.{Entry}
 use Rattle.mapping.specs.declared.Entry.the-variants as entry
 use Rattle.mapping.specs.declared.Found.{Found}
 use Rattle.mapping.specs.declared.Found.the-variants.{At, Nothing}
-use Rattle.mapping.specs.Entries.{entryAt, inRange, atMost, stopRefusal, ListFrom, WithinLimit}
+use Rattle.mapping.specs.declared.Start.{Start}
+use Rattle.mapping.specs.declared.search.Passed.{Passed}
+use Rattle.mapping.specs.Search.{SkipsBelow, StartOf}
+use Rattle.mapping.specs.Entries.{entryAt, afterEntry, inRange, atMost, stopRefusal, ListFrom, WithinLimit}
 use Rattle.mapping.specs.Mapping.{fromTo, spelled, listOf, placeFrom, placeOr, isFound, refusal}
 use Rattle.mapping.proofs.Ranges.{length-range-le, length-range-through, place-in, place-past}
 use Rattle.mapping.proofs.Entries.{entry-range, entry-stopped, entry-ill-formed, entry-end, stopped-entry}
@@ -149,6 +152,33 @@ module _ (s : List ℕ) (at : ℕ) {x : Entry} (e : x ≡ entryAt s at) (t : (ta
       let l = ap length (entry-end s at e q .spells) in
       rw (o, q, v, limit-same k (length (listOf s)) (omega arith)))
       (stopped-entry x t)
+
+-- ---- where the search starts
+
+pub after-range : {x : Entry} {start end : ℕ} {c : Cursor} → x ≡ entry.Range start end c → c .at ≡ afterEntry x
+unfolding afterEntry
+after-range q = rw q
+
+pub after-stopped : (x : Entry) → (tagOf entry-type x ≡ 1) ⊎ (tagOf entry-type x ≡ 2) → 0 ≡ afterEntry x
+unfolding afterEntry
+after-stopped x t = ⊎-elim (λ q. rw q) (λ q. rw q) (stopped-entry x t)
+
+pub after-within : (s : List ℕ) (at : ℕ) {x : Entry} → x ≡ entryAt s at → (n : ℕ) → n ≡ afterEntry x → n ≤ length s
+unfolding afterEntry
+after-within s at {x} e n i = by x e i
+  where
+    by : (y : Entry) → y ≡ entryAt s at → n ≡ afterEntry y → n ≤ length s
+    by (entry.Range start end c) f j = let g = entry-range s at f refl in omega arith
+    by entry.IllFormed f j = omega arith
+    by entry.End f j = omega arith
+
+pub start-made : (s : List ℕ) (x : Entry) (lead from : ℕ) (r : Passed) → x ≡ entryAt s 0 → from ≡ afterEntry x → SkipsBelow s lead from r
+    → StartOf s (record { first = x; lead = lead; passed = r })
+start-made s x lead from r e i g = record { first = e; passed = rw i at g }
+
+pub start-below : (s : List ℕ) (x : Start) → StartOf s x → {start end : ℕ} {c : Cursor} → x .first ≡ entry.Range start end c
+    → SkipsBelow s (x .lead) (c .at) (x .passed)
+start-below s x g q = rw (after-range q) (g .passed)
 
 -- ---- `index_with` and `contains`
 

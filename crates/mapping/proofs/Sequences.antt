@@ -1,6 +1,6 @@
 -- The bytes of a character's sequence: which of them is a lead byte, and that they are those of its needle. Assumes nothing.
 use mathlib.Core.Path.{_≡_, refl, sym}
-use mathlib.Core.Bool.{true, false, not, cond, _&&_, and-eq-true-iff}
+use mathlib.Core.Bool.{true, false, not, _&&_, and-eq-true-iff}
 use mathlib.Core.List.{List}
 use Prim.Native.Nat.{ℕ, _+_, _-_, _*_, _/_, _%_, _<_, _≤_}
 use native.Mathlib.Omega.{arith}
@@ -18,7 +18,7 @@ use Rattle.mapping.specs.Search.{isLead, needleOf, IsNeedle}
 
 -- ---- bytes
 
-continues : (b : ℕ) → isContinuation b ≡ true → (0x80 ≤ b) × (b < 0xC0)
+pub continues : (b : ℕ) → isContinuation b ≡ true → (0x80 ≤ b) × (b < 0xC0)
 unfolding isContinuation
 continues b e = let p = and-eq-true-iff (leb 0x80 b) _ .0 e in (leb-true _ _ (p .0), ltb-true _ _ (p .1))
 

@@ -1,5 +1,5 @@
 -- What `skip` passes over: a character for each lead byte, none of which is looked for. Assumes nothing.
-use mathlib.Core.Path.{_≡_, refl, sym, _∙_, ap}
+use mathlib.Core.Path.{_≡_, refl, sym, _∙_}
 use mathlib.Core.Logic.{_⊎_, inl}
 use mathlib.Core.Bool.{Bool, true, false, _||_, true≢false}
 use mathlib.Core.List.{List, _∷_}
@@ -25,7 +25,7 @@ use Rattle.mapping.specs.declared.Found.{Found}
 use Rattle.mapping.specs.declared.Found.the-variants.{Nothing}
 use Rattle.mapping.specs.Entries.{entryAt, atMost, ListFrom}
 use Rattle.mapping.specs.Mapping.{spelled, placeFrom}
-use Rattle.mapping.specs.Search.{isLead, leads, needleOf, mayBegin, mayBeginAt, Passes, Skips}
+use Rattle.mapping.specs.Search.{isLead, leads, needleOf, mayBegin, mayBeginAt, Passes, Skips, Resumes}
 use Rattle.mapping.proofs.Blocks.{leads-append, leads-one, passes-none, skips-join}
 use Rattle.mapping.proofs.Entries.{entry-range}
 use Rattle.mapping.proofs.Places.{place-capped, find-stopped}
@@ -47,7 +47,7 @@ skips-none s p from g = record { passes = passes-none s p from (g .within); boun
 -- the needle that was found is the character's
 pub skips-needle : (s : List ℕ) (ch : ℕ) (p : Needle) (from : ℕ) (g r : Passed) (k : ℕ) → p ≡ needleOf ch → Passes s p from g → Skips s p (g .at) r
     → k ≡ g .count + r .count → Skips s (needleOf ch) from (record { at = r .at; count = k })
-skips-needle s ch p from g r k e a b f = rw (← e) (skips-join s p from g r a b k f)
+skips-needle s ch p from g r k e a b f = rw (← e, f) (skips-join s p from g r a b)
 
 module _ (s : List ℕ) (ch : ℕ) where
   -- where 00 or the character stands, it may begin
@@ -147,6 +147,22 @@ module _ (s : List ℕ) (ch from : ℕ) (r : Passed) (g : Skips s (needleOf ch) 
   pub skip-stopped : {x : Entry} → x ≡ entryAt s (r .at) → (tagOf the-type x ≡ 1) ⊎ (tagOf the-type x ≡ 2)
       → (most k : ℕ) (f : Found) → atMost most (placeFrom k ch (spelled (charsFrom s from))) ≡ f → Nothing ≡ f
   skip-stopped e t most k f h = find-stopped s (r .at) e t most _ ch f (rw (rest .placed k) at h)
+
+pub resumes-here : (s : List ℕ) (ch from k : ℕ) → ListFrom s from → k ≤ 65_536 → Resumes s ch from k (record { at = from; count = k })
+resumes-here s ch from k l h = record { list = l; small = h; placed = refl }
+
+-- after what was passed over, counted from as many as that has
+pub resumes : (s : List ℕ) (ch from : ℕ) (r : Passed) → Skips s (needleOf ch) from r → ListFrom s from → (k m j : ℕ) → m ≡ min (r .count) 65_536
+    → j ≡ min (k + m) 65_536 → Resumes s ch from k (record { at = r .at; count = j })
+resumes s ch from r g l k m j a b = record {
+  list = record { within = g .passes .within; well = skip-well s ch from r g (l .well) };
+  small = omega arith;
+  placed = skip-again s ch from r g (l .well) 65_536 k m j _ a b refl;
+}
+
+pub resumed : (s : List ℕ) (ch from k : ℕ) (r : Passed) (f : Found) → Resumes s ch from k r
+    → f ≡ atMost 65_536 (placeFrom (r .count) ch (spelled (charsFrom s (r .at)))) → f ≡ atMost 65_536 (placeFrom k ch (spelled (charsFrom s from)))
+resumed s ch from k r f g h = h ∙ g .placed
 
 -- an entry after what was passed over is further on
 pub skip-less : (s : List ℕ) (p : Needle) (from : ℕ) (r : Passed) → Skips s p from r → {x : Entry} → x ≡ entryAt s (r .at)

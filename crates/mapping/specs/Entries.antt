@@ -43,6 +43,12 @@ entryOf s End = entry.End
 abbrev pub entryAt : List ℕ → ℕ → Entry
 entryAt s at = entryOf s (stepAt s at)
 
+-- the position after an entry, or 0 where there is none
+unfoldable pub afterEntry : Entry → ℕ
+afterEntry (entry.Range start end c) = c .at
+afterEntry entry.IllFormed = 0
+afterEntry entry.End = 0
+
 -- whether ch is a character from start to end
 unfoldable pub inRange : ℕ → ℕ → ℕ → Bool
 inRange start end ch = leb start ch && (leb ch end && not (isSurrogate ch))

@@ -7,10 +7,13 @@ use mathlib.Core.List.{List}
 use mathlib.Core.Bool.{Bool, true, false, not, cond, _&&_, _||_}
 use lib.ListN.{length, getD}
 use lib.Dec.{ltb, eqb}
-use Rattle.characters.specs.Utf8.{isContinuation}
+use Rattle.characters.specs.Utf8.{isContinuation, charsFrom}
 use Rattle.mapping.specs.declared.search.Needle.{Needle}
 use Rattle.mapping.specs.declared.search.Block.{Block}
 use Rattle.mapping.specs.declared.search.Passed.{Passed}
+use Rattle.mapping.specs.declared.Start.{Start}
+use Rattle.mapping.specs.Entries.{entryAt, afterEntry, atMost, ListFrom}
+use Rattle.mapping.specs.Mapping.{spelled, placeFrom}
 
 -- a byte that does not continue a sequence
 unfoldable pub isLead : ℕ → Bool
@@ -56,6 +59,23 @@ pub record OfHit (s : List ℕ) (p : Needle) (at r : ℕ) : Type 0 where
   pub most : r ≤ 64
   pub clear : (j : ℕ) → j + r < 64 → mayBeginAt s p (at + j) ≡ false
 
+-- every byte from `from` up to r is below `limit` and not 00, and r counts the lead bytes there
+pub record Below (s : List ℕ) (limit from : ℕ) (r : Passed) : Type 0 where
+  pub forward : from ≤ r .at
+  pub within : r .at ≤ length s
+  pub counted : r .count ≡ leads s from (r .at - from)
+  pub low : (q : ℕ) → from ≤ q → q < r .at → before (getD s q 0) < before limit
+
+-- the same, up to the end or to a lead byte, unless there are none
+pub record SkipsBelow (s : List ℕ) (limit from : ℕ) (r : Passed) : Type 0 where
+  pub below : Below s limit from r
+  pub boundary : from < r .at → r .at < length s → isLead (getD s (r .at) 0) ≡ true
+
+-- where the search starts: the first entry, and bytes after it that are below `lead`
+pub record StartOf (s : List ℕ) (x : Start) : Type 0 where
+  pub first : x .first ≡ entryAt s 0
+  pub passed : SkipsBelow s (x .lead) (afterEntry (x .first)) (x .passed)
+
 -- nothing begins from `from` up to r, and r counts the lead bytes there
 pub record Passes (s : List ℕ) (p : Needle) (from : ℕ) (r : Passed) : Type 0 where
   pub forward : from ≤ r .at
@@ -67,6 +87,12 @@ pub record Passes (s : List ℕ) (p : Needle) (from : ℕ) (r : Passed) : Type 0
 pub record Skips (s : List ℕ) (p : Needle) (from : ℕ) (r : Passed) : Type 0 where
   pub passes : Passes s p from r
   pub boundary : r .at < length s → isLead (getD s (r .at) 0) ≡ true
+
+-- where a character's position from `from` on, counted from k, is its position from r on, counted from what r counts
+pub record Resumes (s : List ℕ) (ch from k : ℕ) (r : Passed) : Type 0 where
+  pub list : ListFrom s (r .at)
+  pub small : r .count ≤ 65_536
+  pub placed : atMost 65_536 (placeFrom (r .count) ch (spelled (charsFrom s (r .at)))) ≡ atMost 65_536 (placeFrom k ch (spelled (charsFrom s from)))
 
 -- the distances stay within a sequence, and the lead byte is one
 pub record IsNeedle (p : Needle) : Type 0 where

@@ -1,11 +1,14 @@
+// A mapping: the entries that its bytes spell, the index of a character, whether it is listed, and the refusals 7 and 8.
 use characters::Cursor;
 use characters::Step;
+use search::Passed;
 ghost use mathlib.Core.Path.{_≡_};
 ghost use Prim.Native.Nat.{_-_, _≤_, min};
 ghost use lib.ListN.{length};
 ghost use Rattle.characters.specs.Utf8.{charsFrom};
-ghost use Rattle.mapping.specs.Entries.{entryAt, stopOf, inRange, scalarsBelow, atMost, stopRefusal, ListFrom, WithinLimit};
+ghost use Rattle.mapping.specs.Entries.{entryAt, afterEntry, stopOf, inRange, scalarsBelow, atMost, stopRefusal, ListFrom, WithinLimit};
 ghost use Rattle.mapping.specs.Mapping.{fromTo, spelled, placeFrom, index, contains, refusal};
+ghost use Rattle.mapping.specs.Search.{SkipsBelow, StartOf, Resumes};
 
 pub mod search;
 
@@ -21,6 +24,14 @@ pub enum Entry {
 pub enum Found {
     At(u32),
     Nothing,
+}
+
+// Where the search in a mapping starts for the characters of a text: the mapping's first entry, and what is passed over after it
+// for a character whose sequence begins with `lead` or a higher byte.
+pub struct Start {
+    pub first: Entry,
+    pub lead: u8,
+    pub passed: Passed,
 }
 
 // The lesser of two numbers.
@@ -103,6 +114,16 @@ fn entry_at(mapping: &[u8], c: Cursor) -> Entry
     Entry::Range(start, end, last)
 }
 
+// The position after an entry, or 0 where there is none.
+fn after_entry(entry: Entry) -> usize
+    ensures { λ r. ⌜ r ≡ afterEntry entry ⌝ }
+{
+    let Entry::Range(_, _, after) = entry else {
+        return 0;
+    };
+    after.at
+}
+
 // The first position of a character in the list from a cursor on, counted from `count`, or 65,536 for every position from there on.
 fn find(mapping: &[u8], from: Cursor, count: u64, ch: u32) -> Found
     requires { ⌜ ListFrom (now mapping) (from .at) ⌝ }
@@ -129,41 +150,90 @@ fn find(mapping: &[u8], from: Cursor, count: u64, ch: u32) -> Found
     }
 }
 
-// The first entry of a mapping.
-pub fn first_entry(mapping: &[u8]) -> Entry
-    ensures { λ r. ⌜ r ≡ entryAt (now (mapping .entry)) 0 ⌝ }
+// From where on ch is looked for after `from`, and how many characters are counted by there if `count` are by `from`: after `below`
+// if the sequence of ch begins with `lead` or a higher byte.
+fn resume(mapping: &[u8], from: usize, lead: u8, below: Passed, count: u64, ch: u32) -> Passed
+    requires { ⌜ ListFrom (now mapping) from ⌝ }
+    requires { ⌜ SkipsBelow (now mapping) lead from below ⌝ }
+    requires { ⌜ count ≤ 65_536 ⌝ }
+    ensures { λ r. ⌜ Resumes (now (mapping .entry)) ch from count r ⌝ }
 {
-    entry_at(mapping, Cursor { at: 0 })
+    if below.at <= from {
+        return Passed { at: from, count };
+    }
+    let passed = search::passed_for(mapping, from, lead, below, ch);
+    let more = at_most(passed.count, 65536);
+    let counted = at_most(count + more, 65536);
+    Passed {
+        at: passed.at,
+        count: counted,
+    }
 }
 
-// The first position of a character in a mapping that the check accepts, else the replacement. The mapping's first entry is
-// given, so that a character of its range is found without a step over the bytes.
-pub fn index_with(mapping: &[u8], first: Entry, replacement: u32, ch: u32) -> u32
+// Where the search in a mapping starts for the characters of a text. The text is looked at only if the mapping goes on for a block
+// after its first entry.
+pub fn start_of(mapping: &[u8], text: &[u8]) -> Start
+    ensures { λ r. ⌜ StartOf (now (mapping .entry)) r ⌝ }
+{
+    let first = entry_at(mapping, Cursor { at: 0 });
+    let at = after_entry(first);
+    let nothing = Passed { at, count: 0 };
+    if mapping.len() - at < 128 {
+        return Start {
+            first,
+            lead: 0,
+            passed: nothing,
+        };
+    }
+    let lead = search::least_lead(text);
+    if lead < 0xC0 {
+        return Start {
+            first,
+            lead,
+            passed: nothing,
+        };
+    }
+    let passed = search::pass_below(mapping, at, lead);
+    Start {
+        first,
+        lead,
+        passed,
+    }
+}
+
+// The first position of a character in a mapping that the check accepts, else the replacement. Where the search starts is given,
+// so that a character of the first range is found without a step over the bytes.
+pub fn index_with(mapping: &[u8], start: Start, replacement: u32, ch: u32) -> u32
     requires { ⌜ WithinLimit (now mapping) ⌝ }
-    requires { ⌜ first ≡ entryAt (now mapping) 0 ⌝ }
+    requires { ⌜ StartOf (now mapping) start ⌝ }
     ensures { λ r. ⌜ r ≡ index (now (mapping .entry)) replacement ch ⌝ }
 {
-    let Entry::Range(start, end, after) = first else {
+    let first = start.first;
+    let Entry::Range(low, high, after) = first else {
         return replacement;
     };
-    if in_range(start, end, ch) {
-        let through = range_len(start, ch);
+    if in_range(low, high, ch) {
+        let through = range_len(low, ch);
         return (through - 1) as u32;
     }
-    let len = at_most(range_len(start, end), 65536);
-    let Found::At(place) = find(mapping, after, len, ch) else {
+    let len = at_most(range_len(low, high), 65536);
+    let passed = start.passed;
+    let from = resume(mapping, after.at, start.lead, passed, len, ch);
+    let Found::At(place) = find(mapping, Cursor { at: from.at }, from.count, ch) else {
         return replacement;
     };
     place
 }
 
-// The same, with the first entry read from the mapping.
+// The same, for a single character.
 pub fn index(mapping: &[u8], replacement: u32, ch: u32) -> u32
     requires { ⌜ WithinLimit (now mapping) ⌝ }
     ensures { λ r. ⌜ r ≡ index (now (mapping .entry)) replacement ch ⌝ }
 {
-    let first = first_entry(mapping);
-    index_with(mapping, first, replacement, ch)
+    let Found::At(place) = find(mapping, Cursor { at: 0 }, 0, ch) else {
+        return replacement;
+    };
+    place
 }
 
 // Whether a mapping that the check accepts lists a character.

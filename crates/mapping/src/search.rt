@@ -6,7 +6,7 @@ ghost use mathlib.Core.Bool.{cond};
 ghost use Prim.Native.Nat.{_+_, _-_, _<_, _≤_, min, max};
 ghost use lib.ListN.{length, getD};
 ghost use Rattle.mapping.specs.Entries.{ListFrom};
-ghost use Rattle.mapping.specs.Search.{isLead, leads, needleOf, mayBegin, mayBeginAt, before, OfBlock, OfHit, Passes, Skips, IsNeedle};
+ghost use Rattle.mapping.specs.Search.{isLead, leads, needleOf, mayBegin, mayBeginAt, before, OfBlock, OfHit, Below, SkipsBelow, Passes, Skips, IsNeedle};
 
 // The bytes by which a character is looked for: the first of its UTF-8 sequence, the second of four, the last but one and the last,
 // with how far on from the first they stand. One that a sequence is too short for is the first again.
@@ -144,6 +144,29 @@ fn needle_of(ch: u32) -> Needle
     }
 }
 
+// The first byte of a character's sequence.
+fn lead_of(ch: u32) -> u8
+    ensures { λ r. ⌜ r ≡ needleOf ch .lead ⌝ }
+{
+    let needle = needle_of(ch);
+    needle.lead
+}
+
+// The least byte of a text with which a sequence of several bytes begins, or 0 if there is none.
+pub fn least_lead(text: &[u8]) -> u8 {
+    let mut least: u8 = 255;
+    let mut i: usize = 0;
+    while i < text.len() {
+        let b = text[i];
+        least = lesser(least, greater(b, only_if(b < 0xC0, 255)));
+        i += 1;
+    }
+    if least == 255 {
+        return 0;
+    }
+    least
+}
+
 // Whether a range or the character may begin with the byte a.
 fn may_begin(needle: Needle, a: u8, b: u8, c: u8, d: u8) -> bool
     ensures { λ r. ⌜ r ≡ mayBegin needle a b c d ⌝ }
@@ -212,23 +235,54 @@ fn leads_of(mapping: &[u8], at: usize, n: u8) -> u8
     count
 }
 
-// Passes over blocks of bytes that are below the needle's first one, and not 00.
-fn pass_blocks(mapping: &[u8], from: usize, needle: Needle) -> Passed
+// Passes over blocks of bytes that are below `lead`, and not 00.
+fn pass_blocks(mapping: &[u8], from: usize, lead: u8) -> Passed
     requires { ⌜ from ≤ length (now mapping) ⌝ }
-    ensures { λ r. ⌜ Passes (now (mapping .entry)) needle from r ⌝ }
+    ensures { λ r. ⌜ Below (now (mapping .entry)) lead from r ⌝ }
 {
     let size = mapping.len();
     let mut at = from;
     let mut count: u64 = 0;
     while 128 <= size - at {
         let bytes = read_block(mapping, at);
-        if before(needle.lead) <= bytes.most {
+        if before(lead) <= bytes.most {
             return Passed { at, count };
         }
         count += wide64(bytes.leads);
         at += 128;
     }
     Passed { at, count }
+}
+
+// The same, and on to the next lead byte.
+pub fn pass_below(mapping: &[u8], from: usize, lead: u8) -> Passed
+    requires { ⌜ from ≤ length (now mapping) ⌝ }
+    requires { ⌜ 0xC0 ≤ lead ⌝ }
+    ensures { λ r. ⌜ SkipsBelow (now (mapping .entry)) lead from r ⌝ }
+{
+    let blocks = pass_blocks(mapping, from, lead);
+    let count = blocks.count;
+    let mut at = blocks.at;
+    while at < mapping.len() {
+        if is_lead(mapping[at]) {
+            return Passed { at, count };
+        }
+        at += 1;
+    }
+    Passed { at, count }
+}
+
+// What is passed over for ch: `passed`, if the sequence of ch begins with `lead` or a higher byte, else nothing.
+pub fn passed_for(mapping: &[u8], from: usize, lead: u8, passed: Passed, ch: u32) -> Passed
+    requires { ⌜ ListFrom (now mapping) from ⌝ }
+    requires { ⌜ SkipsBelow (now mapping) lead from passed ⌝ }
+    requires { ⌜ from < passed .at ⌝ }
+    ensures { λ r. ⌜ Skips (now (mapping .entry)) (needleOf ch) from r ⌝ }
+{
+    if before(lead) <= before(lead_of(ch)) {
+        return passed;
+    }
+    Passed { at: from, count: 0 }
 }
 
 // Passes over bytes with which neither a range nor the character begins.
@@ -238,7 +292,7 @@ fn pass(mapping: &[u8], from: usize, needle: Needle) -> Passed
     ensures { λ r. ⌜ Passes (now (mapping .entry)) needle from r ⌝ }
 {
     let size = mapping.len();
-    let blocks = pass_blocks(mapping, from, needle);
+    let blocks = pass_blocks(mapping, from, needle.lead);
     let mut at = blocks.at;
     let mut count = blocks.count;
     while 67 <= size - at {

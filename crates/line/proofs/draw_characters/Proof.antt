@@ -11,8 +11,8 @@ shows-glyphs-requires c κs = search needs
 cells-of-requires : tie.Need-cells-of-requires
 cells-of-requires c κs = search needs
 
-first-entry-requires : tie.Need-first-entry-requires
-first-entry-requires c κs = search needs
+start-of-requires : tie.Need-start-of-requires
+start-of-requires c κs = search needs
 
 draw-glyphs-requires : tie.Need-draw-glyphs-requires
 draw-glyphs-requires c κs = (search needs, (search needs, search needs))
@@ -38,7 +38,7 @@ draw-characters-spec =
     (tie.spec
     shows-glyphs-requires
     cells-of-requires
-    first-entry-requires
+    start-of-requires
     draw-glyphs-requires
     same-length
     returns

@@ -1,6 +1,7 @@
 -- A character of the first range stands as far on as the range has characters up to it, any other as far on as after the range; in a
 -- mapping within the limit no position is cut. Assumes nothing.
-use Rattle.mapping.proofs.Places.{index-stopped, first-pos, first-fits, index-first, list-after, after-first, index-nothing, index-at}
+use Rattle.mapping.proofs.Places.{start-below, index-stopped, first-pos, first-fits, index-first, list-after, after-first, index-nothing, index-at}
+use Rattle.mapping.proofs.Skipped.{resumed}
 use borrow.Author.Needs.{needs}
 use Rattle.mapping.proofs.index_with.Statement.{statement}
 use Rattle.mapping.proofs.index_with.Tie as tie
@@ -32,8 +33,11 @@ range-len-requires-2 c κs = search needs
 at-most-requires : tie.Need-at-most-requires
 at-most-requires c κs = search needs
 
+resume-requires : tie.Need-resume-requires
+resume-requires c κs = (search list-after, (search start-below, search needs))
+
 find-requires : tie.Need-find-requires
-find-requires c κs = (search list-after, search needs)
+find-requires c κs = search needs
 
 enum-known-place : tie.Need-enum-known-place
 enum-known-place c = search needs
@@ -42,10 +46,10 @@ enum-told : tie.Need-enum-told
 enum-told c = search needs
 
 returns-3 : tie.Need-returns-3
-returns-3 c = search (index-nothing, after-first)
+returns-3 c = search (index-nothing, after-first, resumed)
 
 returns-4 : tie.Need-returns-4
-returns-4 c = search (index-at, after-first)
+returns-4 c = search (index-at, after-first, resumed)
 
 pub index-with-spec : {M : Type 1} → statement M
 index-with-spec =
@@ -60,6 +64,7 @@ index-with-spec =
     returns-2
     range-len-requires-2
     at-most-requires
+    resume-requires
     find-requires
     enum-known-place
     enum-told

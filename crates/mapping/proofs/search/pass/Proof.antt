@@ -2,7 +2,7 @@
 use Prim.Native.Nat.{_-_}
 use lib.ListN.{length}
 use Rattle.mapping.specs.Search.{Passes}
-use Rattle.mapping.proofs.Blocks.{upto-fits, passes-hit, through-fits, passes-through}
+use Rattle.mapping.proofs.Blocks.{passes-lead, upto-fits, passes-hit, through-fits, passes-through}
 use borrow.Author.Needs.{needs}
 use Rattle.mapping.proofs.search.pass.Statement.{statement}
 use Rattle.mapping.proofs.search.pass.Tie as tie
@@ -17,7 +17,7 @@ pass-blocks-requires : tie.Need-pass-blocks-requires Inv-loop μ-loop
 pass-blocks-requires c κs = search needs
 
 loop-holds : tie.Need-loop-holds Inv-loop μ-loop
-loop-holds c = search needs
+loop-holds c = search passes-lead
 
 sub-loop : tie.Need-sub-loop Inv-loop μ-loop
 sub-loop c = search needs

@@ -1,20 +1,20 @@
 -- The invariant: what was passed over. Assumes nothing.
 use Prim.Native.Nat.{_-_}
 use lib.ListN.{length}
-use Rattle.mapping.specs.Search.{Passes}
-use Rattle.mapping.proofs.Blocks.{passes-none, block-fits, passes-block}
+use Rattle.mapping.specs.Search.{Below}
+use Rattle.mapping.proofs.Blocks.{below-none, block-fits, below-block}
 use borrow.Author.Needs.{needs}
 use Rattle.mapping.proofs.search.pass_blocks.Statement.{statement}
 use Rattle.mapping.proofs.search.pass_blocks.Tie as tie
 
 abbrev Inv-loop : tie.InvT-loop
-Inv-loop mapping from needle size at₀ count₀ at count = Passes mapping needle from (record { at = at; count = count })
+Inv-loop mapping from lead size at₀ count₀ at count = Below mapping lead from (record { at = at; count = count })
 
 abbrev μ-loop : tie.MeasureT-loop
-μ-loop mapping from needle size at₀ count₀ at count = length mapping - at
+μ-loop mapping from lead size at₀ count₀ at count = length mapping - at
 
 loop-holds : tie.Need-loop-holds Inv-loop μ-loop
-loop-holds c = search passes-none
+loop-holds c = search below-none
 
 sub-loop : tie.Need-sub-loop Inv-loop μ-loop
 sub-loop c = search needs
@@ -41,7 +41,7 @@ loop-less : tie.Need-loop-less Inv-loop μ-loop
 loop-less c = search needs
 
 loop-again : tie.Need-loop-again Inv-loop μ-loop
-loop-again c = search passes-block
+loop-again c = search below-block
 
 returns-2 : tie.Need-returns-2 Inv-loop μ-loop
 returns-2 c = search needs
