@@ -230,10 +230,8 @@ pub fn index(mapping: &[u8], replacement: u32, ch: u32) -> u32
     requires { ⌜ WithinLimit (now mapping) ⌝ }
     ensures { λ r. ⌜ r ≡ index (now (mapping .entry)) replacement ch ⌝ }
 {
-    let Found::At(place) = find(mapping, Cursor { at: 0 }, 0, ch) else {
-        return replacement;
-    };
-    place
+    let start = start_of(mapping, b"");
+    index_with(mapping, start, replacement, ch)
 }
 
 // Whether a mapping that the check accepts lists a character.
