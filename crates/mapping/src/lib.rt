@@ -230,8 +230,17 @@ pub fn index(mapping: &[u8], replacement: u32, ch: u32) -> u32
     requires { ⌜ WithinLimit (now mapping) ⌝ }
     ensures { λ r. ⌜ r ≡ index (now (mapping .entry)) replacement ch ⌝ }
 {
-    let start = start_of(mapping, b"");
-    index_with(mapping, start, replacement, ch)
+    let Entry::Range(low, high, _) = entry_at(mapping, Cursor { at: 0 }) else {
+        return replacement;
+    };
+    if in_range(low, high, ch) {
+        let through = range_len(low, ch);
+        return (through - 1) as u32;
+    }
+    let Found::At(place) = find(mapping, Cursor { at: 0 }, 0, ch) else {
+        return replacement;
+    };
+    place
 }
 
 // Whether a mapping that the check accepts lists a character.
