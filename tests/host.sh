@@ -108,6 +108,17 @@ try "station_page" make_program
 for name in gcc g++ clang clang++; do
   try "compiler $name" has_compiler "$name"
 done
+
+# The tests of the tools run beside those of the header and the library.
+for program in check items; do
+  rm -f "$out/$program"
+  for name in gcc clang; do
+    [ -x "$out/$program" ] || "$name" -std=c99 -O2 "${warnings[@]}" "tests/host/$program.c" "$archive" -o "$out/$program" 2>"$out/log" || true
+  done
+done
+python3 tests/tools.py "$out/check" "$out/items" >"$out/tools" 2>"$out/tools.log" &
+tools=$!
+
 for name in gcc clang; do
   try "header as C99, $name" header "$name" c99 c
   try "declarations as exported, $name" declarations "$name"
@@ -133,13 +144,7 @@ for name in gcc clang; do
   try "worst cases are built, $name" worst "$name"
 done
 
-for program in check items; do
-  rm -f "$out/$program"
-  for name in gcc clang; do
-    [ -x "$out/$program" ] || "$name" -std=c99 -O2 "${warnings[@]}" "tests/host/$program.c" "$archive" -o "$out/$program" 2>"$out/log" || true
-  done
-done
-python3 tests/tools.py "$out/check" "$out/items" >"$out/tools" 2>"$out/tools.log"
+wait "$tools"
 status=$?
 while IFS= read -r line; do
   count "$line"

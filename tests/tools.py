@@ -8,6 +8,7 @@ sheet's items. Prints 'ok NAME' or 'FAILED NAME: why' for each test; the exit st
 import os
 import re
 import shutil
+import signal
 import struct
 import subprocess
 import sys
@@ -381,6 +382,7 @@ def test_version_of_header(_):
 def main():
     if len(sys.argv) != 3:
         sys.exit("usage: python3 tests/tools.py CHECK ITEMS")
+    signal.signal(signal.SIGINT, signal.default_int_handler)  # a shell has it ignored in what it runs beside itself
     modules = (explained, sys.modules[__name__], described, wrong_inputs, guide, gate, must_fail)
     return 1 if sum(run_tests(module) for module in modules) else 0
 

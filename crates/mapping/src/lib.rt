@@ -234,8 +234,8 @@ pub fn index(mapping: &[u8], replacement: u32, ch: u32) -> u32
         return replacement;
     };
     if in_range(low, high, ch) {
-        let through = range_len(low, ch);
-        return (through - 1) as u32;
+        let count = range_len(low, ch);
+        return (count - 1) as u32;
     }
     let Found::At(place) = find(mapping, Cursor { at: 0 }, 0, ch) else {
         return replacement;
