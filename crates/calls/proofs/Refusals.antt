@@ -15,7 +15,7 @@ use Rattle.sheet.specs.Check.{check}
 use Rattle.sheet.specs.Accepted.{Accepted}
 use Rattle.sheet.specs.Requires.{FontListed, ItemListed, EditAllowed}
 use Rattle.sheet.specs.Edits.{Edit, refusal}
-use Rattle.sheet.proofs.Refusals.{need-zero, orElse-zero, orElse-first}
+use Rattle.characters.proofs.Refusals.{need-zero, orElse-zero, orElse-first}
 use Rattle.sheet.proofs.Acceptance.{accepted}
 use Rattle.drawing.specs.Drawing.{pixelCount}
 use Rattle.drawing.specs.Frames.{Framed}

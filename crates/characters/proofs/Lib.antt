@@ -1,7 +1,9 @@
 pub mod Ascii
+pub mod Feeds
 pub mod Folds
 pub mod LeadingOnes
 pub mod Parts
+pub mod Refusals
 pub mod Sequences
 pub mod Steps
 pub mod Tests

@@ -6,6 +6,7 @@ ghost use Rattle.characters.specs.Refusal.{need};
 ghost use Rattle.characters.specs.Utf8.{leadingOnes, isContinuation, isSurrogate, scalar, two, three, four, stepAt, chars, wellFormed};
 ghost use Rattle.characters.specs.Ascii.{asciiLength};
 
+pub mod lines;
 pub mod walker;
 
 // A position in a text: the offset of its next byte.

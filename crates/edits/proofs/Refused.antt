@@ -15,7 +15,7 @@ use Rattle.characters.specs.Refusal.{need}
 use Rattle.sheet.specs.Fields.{le16At, itemCount, itemAt, slotSize}
 use Rattle.sheet.specs.Accepted.{Accepted}
 use Rattle.sheet.specs.Edits.{inRange}
-use Rattle.sheet.proofs.Refusals.{need-zero}
+use Rattle.characters.proofs.Refusals.{need-zero}
 use Rattle.edits.proofs.Signed.{read}
 
 -- ---- 12

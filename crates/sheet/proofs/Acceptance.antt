@@ -19,7 +19,7 @@ use Rattle.sheet.specs.Pieces.{pieces}
 use Rattle.sheet.specs.Conforming.{Headed, FontFits, ItemFits, Conforming}
 use Rattle.sheet.specs.Check.{headerFields, checkHeader, layoutTests, isLaidOut, fontFields, checkFont, itemFields, itemNumbers, zeros, checkItem, firstRefusal, fontRefusal, itemRefusal, checkFonts, checkItems, check}
 use Rattle.sheet.specs.Accepted.{Accepted}
-use Rattle.sheet.proofs.Refusals.{need-zero, orElse-zero, all-true}
+use Rattle.characters.proofs.Refusals.{need-zero, orElse-zero, all-true}
 use Rattle.sheet.proofs.Bytes.{part-at, length-part}
 use Rattle.sheet.proofs.Chains.{ends-chain, chain-ends}
 use Rattle.sheet.proofs.LaidOut.{laid-out}

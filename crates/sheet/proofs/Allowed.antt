@@ -12,7 +12,7 @@ use Rattle.characters.specs.Utf8.{wellFormed}
 use Rattle.sheet.specs.Fields.{itemCount, itemAt, slotOffset, slotSize, textLengthAt, styleAt}
 use Rattle.limits.specs.Limits.{goodModes}
 use Rattle.sheet.specs.Edits.{Edit, newText, newPlace, newStyle, itemNumber, inRange, textRefusal, placeRefusal, styleRefusal, refusal, biased, edited}
-use Rattle.sheet.proofs.Refusals.{need-zero}
+use Rattle.characters.proofs.Refusals.{need-zero}
 use Rattle.sheet.proofs.Stores.{length-putText, length-putPlace, length-putStyle, putText-other, putPlace-other, putStyle-other}
 
 pub record TextAllowed (b : List ℕ) (i : ℕ) (t : List ℕ) : Type 0 where

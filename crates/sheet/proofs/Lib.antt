@@ -1,4 +1,3 @@
-pub mod Refusals
 pub mod Bytes
 pub mod Chains
 pub mod LaidOut

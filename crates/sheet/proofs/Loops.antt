@@ -12,7 +12,7 @@ use Rattle.sheet.specs.declared.Reach.the-variants.{To, Misplaced}
 use Rattle.sheet.specs.Fields.{le16At, le32At, fontAt, itemAt}
 use Rattle.sheet.specs.Pieces.{fontPieces, slotPieces}
 use Rattle.sheet.specs.Check.{reach, checkFont, zeros, checkItem, firstRefusal, fontRefusal, itemRefusal}
-use Rattle.sheet.proofs.Refusals.{orElse-first}
+use Rattle.characters.proofs.Refusals.{orElse-first}
 
 -- what is left of n after k is one more than after k + 1
 left-suc : (n k : ℕ) → k < n → n - k ≡ suc (n - suc k)

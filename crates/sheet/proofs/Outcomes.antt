@@ -21,7 +21,7 @@ use Rattle.sheet.specs.Pieces.{fontPieces, slotPieces, piecesOf, pieces}
 use Rattle.sheet.specs.Conforming.{Headed}
 use Rattle.sheet.specs.Check.{reach, endsAt, layoutTests, isLaidOut, fontFields, checkFont, itemFields, itemNumbers, zeros, checkItem, checkHeader, checkFonts, checkItems, check}
 use Rattle.sheet.specs.Accepted.{FontIn, ItemIn, LaidOut}
-use Rattle.sheet.proofs.Refusals.{orElse-first, all-true}
+use Rattle.characters.proofs.Refusals.{orElse-first, all-true}
 use Rattle.sheet.proofs.Chains.{ends-chain, chain-le, thenReach, reach-append}
 use Rattle.sheet.proofs.LaidOut.{laid-out}
 use Rattle.sheet.proofs.Acceptance.{headed, text-in-slot}

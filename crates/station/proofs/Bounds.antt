@@ -15,14 +15,16 @@ use Rattle.geometry.specs.Rectangle.{envelope, join, joins}
 use Rattle.geometry.specs.Layer.{origin}
 use Rattle.geometry.proofs.Rectangles.{join-cases}
 use Rattle.characters.specs.Utf8.{chars}
+use Rattle.characters.specs.Lines.{lines, before}
+use Rattle.characters.proofs.Feeds.{length-without-return}
 use Rattle.line.specs.declared.MonoFont.{MonoFont}
 use Rattle.line.specs.Line.{measuredWidth}
 use Rattle.line.specs.Line
 use Rattle.line.specs.Limits.{FontLimits}
 use Rattle.line.proofs.Advances.{width-small, advance-width}
 use Rattle.text.specs.Limits.{TextLimits}
-use Rattle.text.specs.Text.{Text, PlacedLine, lines, before, placeLine, placeLines, placedLines, lineHeight, lineNext, lastNext, next, measuredBox, boundingBox}
-use Rattle.text.proofs.Places.{start-near, height-small, length-without-return}
+use Rattle.text.specs.Text.{Text, PlacedLine, placeLine, placeLines, placedLines, lineHeight, lineNext, lastNext, next, measuredBox, boundingBox}
+use Rattle.text.proofs.Places.{start-near, height-small}
 use Rattle.text.proofs.Exact.{PlacedAt, placed-at, length-line}
 use Rattle.sheet.specs.Fields.{le16At, coordinate, itemAt, fontAt, fontNumber}
 use Rattle.records.specs.Records.{monoFont, font, monoTextStyle, textStyle, itemOf, item, itemFont}

@@ -9,15 +9,16 @@ use Rattle.geometry.specs.declared.DrawTarget.{DrawTarget}
 use Rattle.geometry.specs.Canvas.{paintOn}
 use Rattle.geometry.proofs.Layers.{length-paint}
 use Rattle.characters.specs.Utf8.{chars}
+use Rattle.characters.specs.Lines.{lines, withoutReturn, lineLength, lineFrom}
+use Rattle.characters.proofs.Feeds.{line-part, lines-last, lines-more, lines-first}
 use Rattle.line.specs.declared.MonoFont.{MonoFont}
 use Rattle.line.specs.Line.{Font, fontOf, string, advance}
 use Rattle.line.specs.Limits.{FontLimits}
 use Rattle.line.proofs.Painting.{paint-then}
 use Rattle.text.specs.declared.TextLayout.{TextLayout}
-use Rattle.text.specs.Text.{Text, PlacedLine, laidOut, lines, withoutReturn, lineHeight, placeLine, placeLines, placedLines, lineLayer, linesLayer, layer, lineNext, lastNext, next}
-use Rattle.text.specs.Lines.{lineLength, lineFrom, lineCorner}
+use Rattle.text.specs.Text.{Text, PlacedLine, laidOut, lineHeight, placeLine, placeLines, placedLines, lineLayer, linesLayer, layer, lineNext, lastNext, next}
+use Rattle.text.specs.Lines.{lineCorner}
 use Rattle.text.specs.Limits.{TextLimits}
-use Rattle.text.proofs.Feeds.{line-part, lines-last, lines-more, lines-first}
 use Rattle.text.proofs.Places.{LineStart, start-next}
 
 -- ---- `draw_line`: `corner` is the line's corner and `shown` its bytes without the return

@@ -15,13 +15,14 @@ use Rattle.geometry.specs.declared.Rectangle.{Rectangle}
 use Rattle.geometry.specs.Layer.{signed}
 use Rattle.geometry.specs.Rectangle.{rectangle, joins}
 use Rattle.characters.specs.Utf8.{chars}
+use Rattle.characters.specs.Lines.{before, lines}
 use Rattle.line.specs.declared.DecorationDimensions.{DecorationDimensions}
 use Rattle.line.specs.declared.MonoFont.{MonoFont}
 use Rattle.line.specs.Line.{characterWidth, spacing, baselineOffset, advance, measuredWidth, measuredHeight, inkHeight}
 use Rattle.line.specs.Line
 use Rattle.text.specs.declared.Alignment.{Alignment}
 use Rattle.text.specs.declared.Alignment.the-variants.{Left, Center, Right}
-use Rattle.text.specs.Text.{Text, PlacedLine, before, lines, alignedStart, lineHeight, placeLine, placeLines, placedLines, lineTop, lineNext, lastNext, next, nowhere, measuredBox, boundingBox, lineInk, inkBox}
+use Rattle.text.specs.Text.{Text, PlacedLine, alignedStart, lineHeight, placeLine, placeLines, placedLines, lineTop, lineNext, lastNext, next, nowhere, measuredBox, boundingBox, lineInk, inkBox}
 use Rattle.text.specs.Signed
 use Rattle.text.specs.Signed.{SignedPoint, signedPoint, SignedRectangle, signedRectangle, SignedText, signedText, SignedLine, signedLine}
 use Rattle.text.proofs.Signed.{signed-add, signed-sub, signed-joins}

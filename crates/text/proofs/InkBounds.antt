@@ -16,7 +16,9 @@ use Rattle.geometry.specs.declared.Rectangle.{Rectangle}
 use Rattle.geometry.specs.Rectangle.{isEmpty, envelope, join, joins, intersection}
 use Rattle.geometry.proofs.Rectangles.{In, in-not-empty, not-empty, intersection-both}
 use Rattle.characters.specs.Utf8.{chars}
+use Rattle.characters.specs.Lines.{before, lines, withoutReturn}
 use Rattle.characters.proofs.Folds.{length-chars}
+use Rattle.characters.proofs.Feeds.{length-without-return}
 use Rattle.line.specs.declared.MonoFont.{MonoFont}
 use Rattle.line.specs.declared.MonoTextStyle.{MonoTextStyle}
 use Rattle.line.specs.Line.{characterWidth, spacing, baselineOffset, topEdge, measuredWidth, inkHeight}
@@ -27,11 +29,11 @@ use Rattle.text.specs.declared.Alignment.{Alignment}
 use Rattle.text.specs.declared.Alignment.the-variants.{Left, Center, Right}
 use Rattle.text.specs.declared.LineHeight.{LineHeight}
 use Rattle.text.specs.declared.TextStyle.{TextStyle}
-use Rattle.text.specs.Text.{Text, textOf, before, lines, withoutReturn, alignedStart, lineHeight, placeLine, placeLines, placedLines, nowhere, lineInk, inkBox}
+use Rattle.text.specs.Text.{Text, textOf, alignedStart, lineHeight, placeLine, placeLines, placedLines, nowhere, lineInk, inkBox}
 use Rattle.text.specs.Lines.{feedCount, startReach}
 use Rattle.text.specs.Limits.{TextLimits, HeightLimit}
 use Rattle.text.proofs.Exact.{length-line}
-use Rattle.text.proofs.Places.{length-without-return, height-small}
+use Rattle.text.proofs.Places.{height-small}
 
 -- ---- a rectangle between two columns and two rows
 

@@ -1,4 +1,4 @@
-pub mod Feeds
+pub mod Sources
 pub mod Places
 pub mod Drawing
 pub mod LineBoxes

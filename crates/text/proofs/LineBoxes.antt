@@ -11,17 +11,18 @@ use Rattle.geometry.specs.Rectangle.{rectangle, join, joins}
 use Rattle.geometry.specs.Canvas.{EndsFit}
 use Rattle.geometry.proofs.Rectangles.{ends-fit-join}
 use Rattle.characters.specs.Utf8.{chars}
+use Rattle.characters.specs.Lines.{lines, withoutReturn, lineFrom}
+use Rattle.characters.proofs.Feeds.{lines-last, lines-more, end-of-line, length-without-return}
 use Rattle.line.specs.declared.MonoFont.{MonoFont}
 use Rattle.line.specs.declared.MonoTextStyle.{MonoTextStyle}
 use Rattle.line.specs.Line
 use Rattle.line.specs.Limits.{FontLimits}
 use Rattle.line.proofs.Advances.{width-small, advance-width}
 use Rattle.text.specs.declared.TextStyle.{TextStyle}
-use Rattle.text.specs.Text.{Text, textOf, lines, withoutReturn, lineHeight, placeLine, placeLines, placedLines, measuredBox, boundingBox, lineInk, inkBox}
-use Rattle.text.specs.Lines.{lineFrom, lineCorner, lineBox, linesBox}
+use Rattle.text.specs.Text.{Text, textOf, lineHeight, placeLine, placeLines, placedLines, measuredBox, boundingBox, lineInk, inkBox}
+use Rattle.text.specs.Lines.{lineCorner, lineBox, linesBox}
 use Rattle.text.specs.Limits.{TextLimits, LineLimits}
-use Rattle.text.proofs.Feeds.{lines-last, lines-more, end-of-line}
-use Rattle.text.proofs.Places.{LineStart, start-next, start-near, length-without-return, line-limits}
+use Rattle.text.proofs.Places.{LineStart, start-next, start-near, line-limits}
 
 -- ---- `line_box`: `corner` is the line's corner and `shown` its bytes without the return
 

@@ -8,8 +8,8 @@ use mathlib.Core.List.{List, [], _∷_, _++_, map}
 use lib.Dec.{eqb}
 use borrow.Author.Tests.{eqb-true}
 use Rattle.characters.specs.Utf8.{stepAt, foldBy, foldAt, charsFrom, chars, wellFormed}
+use Rattle.characters.specs.Lines.{before, lines}
 use Rattle.characters.proofs.Parts.{well-formed-lines, chars-line-feed}
-use Rattle.text.specs.Text.{before, lines}
 
 -- lines with a feed after each but the last
 abbrev pub joined : List (List ℕ) → List ℕ

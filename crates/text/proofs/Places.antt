@@ -2,16 +2,15 @@
 use Prim.Native.Nat.{ℕ, _+_, _-_, _*_, _/_, _≤_, _<_}
 use native.Mathlib.Nat.{mul-le-mul}
 use native.Mathlib.Omega.{arith}
-use mathlib.Core.Path.{_≡_, refl, ap}
-use mathlib.Core.Bool.{Bool, true, false, cond}
-use mathlib.Core.List.{List, [], _∷_}
-use lib.ListN.{length, take, drop, getD, length-take, length-drop}
-use lib.Dec.{eqb}
+use mathlib.Core.Path.{_≡_, ap}
+use mathlib.Core.List.{List}
+use lib.ListN.{length, drop, length-drop}
 use mir.Syntax.{w32}
 use mir.Val.{Fits}
-use borrow.Author.Tests.{eq-eqb, ne-eqb}
 use Rattle.geometry.specs.declared.Point.{Point}
 use Rattle.characters.specs.Utf8.{chars}
+use Rattle.characters.specs.Lines.{lineLength, lineFrom}
+use Rattle.characters.proofs.Feeds.{length-to-feed, length-line-from}
 use Rattle.line.specs.declared.MonoFont.{MonoFont}
 use Rattle.line.specs.Line.{characterHeight, measuredWidth}
 use Rattle.line.specs.Limits.{FontLimits, PlaceLimits}
@@ -20,33 +19,9 @@ use Rattle.text.specs.declared.Alignment.the-variants.{Left, Center, Rig
 use Rattle.text.specs.declared.LineHeight.{LineHeight}
 use Rattle.text.specs.declared.LineHeight.the-variants.{Pixels, Percent}
 use Rattle.text.specs.declared.TextStyle.{TextStyle}
-use Rattle.text.specs.Text.{withoutReturn, alignedStart, lineHeight}
-use Rattle.text.specs.Lines.{lineLength, lineFrom, lineCorner}
+use Rattle.text.specs.Text.{alignedStart, lineHeight}
+use Rattle.text.specs.Lines.{lineCorner}
 use Rattle.text.specs.Limits.{heightValue, TextLimits, LineLimits}
-use Rattle.text.proofs.Feeds.{length-to-feed, length-line-from}
-
--- ---- `without_return`
-
-pub return-none : (l : List ℕ) → length l ≡ 0 → l ≡ withoutReturn l
-unfolding withoutReturn
-return-none [] h = refl
-return-none (c ∷ cs) h = absurd (omega arith)
-
-pub return-dropped : (l : List ℕ) → getD l (length l - 1) 0 ≡ 0x0D → take (length l - 1) l ≡ withoutReturn l
-unfolding withoutReturn
-return-dropped l e = rw (eq-eqb (getD l (length l - 1) 0) 0x0D e)
-
-pub return-absent : (l : List ℕ) → (getD l (length l - 1) 0 ≡ 0x0D → ⊥) → l ≡ withoutReturn l
-unfolding withoutReturn
-return-absent l e = rw (ne-eqb (getD l (length l - 1) 0) 0x0D e)
-
-pub length-without-return : (l : List ℕ) → length (withoutReturn l) ≤ length l
-unfolding withoutReturn
-length-without-return l = go (eqb (getD l (length l - 1) 0) 0x0D)
-  where
-    go : (t : Bool) → length (cond t (take (length l - 1) l) l) ≤ length l
-    go true = simp length-take (omega arith)
-    go false = omega arith
 
 -- ---- the start of a line, and how much lower the next one stands
 

@@ -10,6 +10,7 @@ use Rattle.geometry.specs.Rectangle
 use Rattle.geometry.specs.Layer.{origin}
 use Rattle.geometry.specs.Layer
 use Rattle.characters.specs.Utf8
+use Rattle.characters.specs.Lines
 use Rattle.mapping.specs.Mapping
 use Rattle.atlas.specs.Atlas
 use Rattle.line.specs.declared.MonoFont.{MonoFont}
@@ -26,7 +27,7 @@ use Rattle.text.specs.Text
 
 -- every definition that the table computes with
 unfoldable computing : ℕ
-unfolding Rectangle.covers Layer.filled Layer.mapIndexed Layer.paint Utf8.leadingOnes Utf8.isContinuation Utf8.isSurrogate Utf8.scalar Utf8.two Utf8.three Utf8.four Utf8.sequence Utf8.stepAt Utf8.foldBy Utf8.foldAt Utf8.charsFrom Mapping.scalarsFrom Mapping.spelled Mapping.placeFrom Atlas.isOn Atlas.isDrawn Atlas.image Atlas.glyph Line.baselineOffset Line.isPainted Line.toColor Line.character Line.glyphs Line.spaced Line.advance Line.decoration Line.decorations Line.string Line.measuredWidth Text.lines Text.withoutReturn Text.alignedStart Text.lineHeight Text.placeLine Text.placeLines Text.placedLines Text.lineLayer Text.linesLayer Text.layer Text.lineNext Text.lastNext Text.next
+unfolding Rectangle.covers Layer.filled Layer.mapIndexed Layer.paint Utf8.leadingOnes Utf8.isContinuation Utf8.isSurrogate Utf8.scalar Utf8.two Utf8.three Utf8.four Utf8.sequence Utf8.stepAt Utf8.foldBy Utf8.foldAt Utf8.charsFrom Lines.lines Lines.withoutReturn Mapping.scalarsFrom Mapping.spelled Mapping.placeFrom Atlas.isOn Atlas.isDrawn Atlas.image Atlas.glyph Line.baselineOffset Line.isPainted Line.toColor Line.character Line.glyphs Line.spaced Line.advance Line.decoration Line.decorations Line.string Line.measuredWidth Text.alignedStart Text.lineHeight Text.placeLine Text.placeLines Text.placedLines Text.lineLayer Text.linesLayer Text.layer Text.lineNext Text.lastNext Text.next
 computing = 0
 
 -- "Atlas 4 wide, bytes 90 60; cw = ch = 2, s = 1, baseline 1, mapping `AB`, .. strikethrough 0 and 1, underline 3 and 1"

@@ -1,10 +1,10 @@
--- The lines of a text, found one by one between two line feeds, as its functions find them. Assumes nothing.
+-- The lines of a text as its functions find them, and their boxes. Assumes nothing.
 -- Serves contracts: nothing here has to be believed.
-use Prim.Native.Nat.{ℕ, suc, _+_}
+use Prim.Native.Nat.{ℕ, _+_}
 use mathlib.Core.Path.{_≡_}
 use mathlib.Core.Bool.{Bool, cond}
 use mathlib.Core.List.{List, [], _∷_, map}
-use lib.ListN.{length, take, drop}
+use lib.ListN.{length}
 use lib.Dec.{eqb}
 use Rattle.geometry.specs.declared.Point.{Point}
 use Rattle.geometry.specs.declared.Rectangle.{Rectangle}
@@ -18,15 +18,6 @@ use Rattle.text.specs.declared.TextStyle.{TextStyle}
 use Rattle.text.specs.declared.boxes.Source.{Source}
 use Rattle.text.specs.declared.boxes.Source.the-variants.{Stored, New}
 use Rattle.text.specs.Text.{Text, PlacedLine, alignedStart, placedLines, nowhere, measuredBox, lineInk}
-
--- how many bytes stand before the first line feed
-unfoldable pub lineLength : List ℕ → ℕ
-lineLength [] = 0
-lineLength (c ∷ cs) = cond (eqb c 0x0A) 0 (suc (lineLength cs))
-
--- the line that starts at a position of a text
-unfoldable pub lineFrom : List ℕ → ℕ → List ℕ
-lineFrom text from = take (lineLength (drop from text)) (drop from text)
 
 -- how many line feeds a text has
 unfoldable pub feedCount : List ℕ → ℕ

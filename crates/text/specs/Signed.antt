@@ -13,6 +13,7 @@ use Rattle.geometry.specs.declared.Point.{Point}
 use Rattle.geometry.specs.declared.Rectangle.{Rectangle}
 use Rattle.geometry.specs.Layer.{signed}
 use Rattle.characters.specs.Utf8.{chars}
+use Rattle.characters.specs.Lines.{lines, withoutReturn}
 use Rattle.line.specs.declared.Baseline.{Baseline}
 use Rattle.line.specs.declared.DecorationDimensions.{DecorationDimensions}
 use Rattle.line.specs.declared.MonoFont.{MonoFont}
@@ -21,7 +22,7 @@ use Rattle.line.specs.Line.{characterWidth, spacing, baselineOffset, advance, m
 use Rattle.text.specs.declared.Alignment.{Alignment}
 use Rattle.text.specs.declared.Alignment.the-variants.{Left, Center, Right}
 use Rattle.text.specs.declared.TextStyle.{TextStyle}
-use Rattle.text.specs.Text.{Text, PlacedLine, lines, withoutReturn, lineHeight}
+use Rattle.text.specs.Text.{Text, PlacedLine, lineHeight}
 
 -- ---- numbers
 

@@ -1,15 +1,14 @@
 -- A text: its lines, where each stands, what they paint, its next position and its boxes (docs/SHEET.md, Text). Assumes nothing.
 -- To be believed: it says what a sheet means.
 use Prim.Native.Nat.{ℕ, _+_, _-_, _*_, _/_}
-use mathlib.Core.Bool.{cond}
 use mathlib.Core.List.{List, [], _∷_, map}
-use lib.ListN.{length, take, getD}
-use lib.Dec.{eqb}
+use lib.ListN.{length}
 use Rattle.geometry.specs.declared.Point.{Point}
 use Rattle.geometry.specs.declared.Rectangle.{Rectangle}
 use Rattle.geometry.specs.Rectangle.{rectangle, joins}
 use Rattle.geometry.specs.Layer.{Layer, transparent, over}
 use Rattle.characters.specs.Utf8.{chars}
+use Rattle.characters.specs.Lines.{lines, withoutReturn}
 use Rattle.line.specs.declared.MonoFont.{MonoFont}
 use Rattle.line.specs.declared.MonoTextStyle.{MonoTextStyle}
 use Rattle.line.specs.Line.{Font, characterHeight, topEdge, string, advance, measuredWidth}
@@ -36,20 +35,6 @@ abbrev pub laidOut : TextLayout → List ℕ → Text
 laidOut t text = record { text = text; position = t .position; characterStyle = t .«character_style»; textStyle = t .«text_style» }
 
 -- ---- lines
-
--- a byte put before the first line
-abbrev pub before : ℕ → List (List ℕ) → List (List ℕ)
-before c [] = []
-before c (l ∷ ls) = (c ∷ l) ∷ ls
-
--- "Lines split at 0A, so n feeds give n + 1 lines"
-unfoldable pub lines : List ℕ → List (List ℕ)
-lines [] = [] ∷ []
-lines (c ∷ cs) = cond (eqb c 0x0A) ([] ∷ lines cs) (before c (lines cs))
-
--- "just one trailing 0D is dropped"
-unfoldable pub withoutReturn : List ℕ → List ℕ
-withoutReturn l = cond (eqb (getD l (length l - 1) 0) 0x0D) (take (length l - 1) l) l
 
 -- "left starts at x, right at x − (w − 1), centre at x − (w − 1) / 2 truncated towards zero"; w is the measured width
 unfoldable pub alignedStart : Alignment → ℕ → ℕ → ℕ

@@ -4,9 +4,9 @@ use super::Alignment;
 use super::LineHeight;
 use super::TextStyle;
 use super::line_corner;
-use super::line_end;
 use super::line_height;
-use super::without_return;
+use characters::lines::line_end;
+use characters::lines::without_return;
 use geometry::Rectangle;
 use geometry::numbers::minus;
 use line::MonoFont;
@@ -18,11 +18,12 @@ ghost use lib.Dec.{eqb};
 ghost use lib.ListN.{length};
 ghost use Rattle.geometry.specs.Rectangle.{isEmpty, intersection};
 ghost use Rattle.geometry.specs.Canvas.{EndsFit};
+ghost use Rattle.characters.specs.Lines.{lineFrom};
 ghost use Rattle.line.specs.declared.MonoTextStyle.{MonoTextStyle};
 ghost use Rattle.line.specs.Line.{characterWidth, spacing, inkHeight};
 ghost use Rattle.line.specs.Limits.{FontLimits};
 ghost use Rattle.text.specs.Text.{textOf, lineHeight, placeLine, boundingBox, inkBox};
-ghost use Rattle.text.specs.Lines.{lineFrom, feedCount, startReach, either, LiesAt, lineBox, linesBox};
+ghost use Rattle.text.specs.Lines.{feedCount, startReach, either, LiesAt, lineBox, linesBox};
 ghost use Rattle.text.specs.Limits.{TextLimits, HeightLimit, LineLimits};
 
 // The text that a line is a part of, while the layouts before and after an edit are found.

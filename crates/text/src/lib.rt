@@ -4,6 +4,8 @@ pub use boxes::bounding_box;
 pub use boxes::ink_box;
 pub use boxes::ink_box_of;
 pub use boxes::is_apart;
+use characters::lines::line_end;
+use characters::lines::without_return;
 use geometry::DrawTarget;
 use geometry::Point;
 use geometry::numbers::minus;
@@ -11,15 +13,14 @@ use line::Baseline;
 use line::MonoFont;
 use line::MonoTextStyle;
 ghost use mathlib.Core.Path.{_≡_};
-ghost use Prim.Native.Nat.{_+_, _≤_};
-ghost use lib.ListN.{length, drop};
+ghost use lib.ListN.{length};
 ghost use Rattle.geometry.specs.Canvas.{Canvas, paintOn};
 ghost use Rattle.characters.specs.Utf8.{chars};
 ghost use Rattle.mapping.specs.Entries.{WithinLimit};
 ghost use Rattle.line.specs.Line.{fontOf, measuredWidth};
 ghost use Rattle.line.specs.Limits.{FontLimits};
-ghost use Rattle.text.specs.Text.{laidOut, withoutReturn, alignedStart, lineHeight, placeLine, lineLayer, layer, lineNext, next};
-ghost use Rattle.text.specs.Lines.{lineLength, lineCorner};
+ghost use Rattle.text.specs.Text.{laidOut, alignedStart, lineHeight, placeLine, lineLayer, layer, lineNext, next};
+ghost use Rattle.text.specs.Lines.{lineCorner};
 ghost use Rattle.text.specs.Limits.{TextLimits, HeightLimit, StartLimits, LineLimits};
 
 mod boxes;
@@ -49,36 +50,6 @@ pub struct TextLayout {
     pub position: Point,
     pub character_style: MonoTextStyle,
     pub text_style: TextStyle,
-}
-
-// Where the line that starts at `from` ends: at a line feed, or with the text.
-fn line_end(text: &[u8], from: usize) -> usize
-    ensures { λ r. ⌜ r ≡ from + lineLength (drop from (now (text .entry))) ⌝ }
-{
-    let mut i = from;
-    while i < text.len() {
-        if text[i] == 0x0A {
-            return i;
-        }
-        i += 1;
-    }
-    i
-}
-
-// A line without one trailing return.
-fn without_return(line: &[u8]) -> &[u8]
-    ensures { λ r. ⌜ now r ≡ withoutReturn (now (line .entry)) ⌝ }
-    ensures { λ r. ⌜ length (now r) ≤ length (now (line .entry)) ⌝ }
-{
-    let n = line.len();
-    if n == 0 {
-        return line;
-    }
-    let end = n - 1;
-    if line[end] == 0x0D {
-        return &line[..end];
-    }
-    line
 }
 
 // Where a line starts beside x; only an alignment that needs the line's width measures it.

@@ -2,8 +2,8 @@
 use Prim.Native.Nat.{_-_}
 use lib.ListN.{length}
 use borrow.Author.Needs.{needs}
+use Rattle.characters.proofs.Feeds.{end-reach, line-part, line-less}
 use Rattle.line.specs.Line.{fontOf}
-use Rattle.text.proofs.Feeds.{end-reach, line-part, line-less}
 use Rattle.text.proofs.Places.{line-limits, at-fits}
 use Rattle.text.proofs.Drawing.{LinesDrawn, lines-start, lines-step, draw-last, next-last}
 use Rattle.text.proofs.draw.Statement.{statement}

@@ -1,6 +1,6 @@
 -- `line_of` meets its contract: a line ends within the text that the source names. Assumes nothing.
 use borrow.Author.Needs.{needs}
-use Rattle.text.proofs.Feeds.{named-end, named-line, named-lies}
+use Rattle.text.proofs.Sources.{named-end, named-line, named-lies}
 use Rattle.text.proofs.boxes.line_of.Statement.{statement}
 use Rattle.text.proofs.boxes.line_of.Tie as tie
 

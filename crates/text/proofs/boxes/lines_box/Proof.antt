@@ -2,7 +2,7 @@
 use Prim.Native.Nat.{_-_}
 use borrow.Author.Needs.{needs}
 use Rattle.text.specs.Lines.{either}
-use Rattle.text.proofs.Feeds.{named-length}
+use Rattle.text.proofs.Sources.{named-length}
 use Rattle.text.proofs.Places.{line-limits, at-fits}
 use Rattle.text.proofs.LineBoxes.{BoxesJoined, boxes-start, boxes-last, boxes-end, boxes-step, box-ends}
 use Rattle.text.proofs.boxes.lines_box.Statement.{statement}

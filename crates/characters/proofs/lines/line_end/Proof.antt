@@ -3,10 +3,10 @@ use Prim.Native.Nat.{_+_, _-_}
 use mathlib.Core.Path.{_≡_}
 use lib.ListN.{length, drop}
 use borrow.Author.Needs.{needs}
-use Rattle.text.specs.Lines.{lineLength}
-use Rattle.text.proofs.Feeds.{end-here, end-later, end-past}
-use Rattle.text.proofs.line_end.Statement.{statement}
-use Rattle.text.proofs.line_end.Tie as tie
+use Rattle.characters.specs.Lines.{lineLength}
+use Rattle.characters.proofs.Feeds.{end-here, end-later, end-past}
+use Rattle.characters.proofs.lines.line_end.Statement.{statement}
+use Rattle.characters.proofs.lines.line_end.Tie as tie
 
 abbrev Inv-loop : tie.InvT-loop
 Inv-loop text from i₀ i = i + lineLength (drop i text) ≡ from + lineLength (drop from text)

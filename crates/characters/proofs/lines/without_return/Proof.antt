@@ -2,9 +2,9 @@
 use native.Mathlib.Omega.{arith}
 use lib.ListN.{length-take}
 use borrow.Author.Needs.{needs}
-use Rattle.text.proofs.Places.{return-none, return-dropped, return-absent}
-use Rattle.text.proofs.without_return.Statement.{statement}
-use Rattle.text.proofs.without_return.Tie as tie
+use Rattle.characters.proofs.Feeds.{return-none, return-dropped, return-absent}
+use Rattle.characters.proofs.lines.without_return.Statement.{statement}
+use Rattle.characters.proofs.lines.without_return.Tie as tie
 
 returns : tie.Need-returns
 returns c = (search return-none, search needs)

@@ -1,19 +1,15 @@
--- The lines of a text, found one by one between two line feeds. Assumes nothing.
+-- The lines of a text, found one by one between two line feeds, and a line without its return. Assumes nothing.
 use Prim.Native.Nat.{ℕ, suc, _+_, _-_, _≤_, _<_}
 use native.Mathlib.Omega.{arith}
 use native.Mathlib.Numerals.{add-one}
 use mathlib.Core.Path.{_≡_, refl, sym, ap, _∙_}
 use mathlib.Core.Bool.{Bool, true, false, cond}
 use mathlib.Core.List.{List, [], _∷_}
-use lib.ListN.{length, take, drop, getD, drop-of-length-le, length-drop}
+use lib.ListN.{length, take, drop, getD, drop-of-length-le, length-take, length-drop}
 use lib.Seq.{drop-cons, drop-drop, length-take-le}
 use lib.Dec.{eqb}
-use denote.Ref.{RefT}
 use borrow.Author.Tests.{eq-eqb, ne-eqb}
-use Rattle.text.specs.declared.boxes.Source.{Source}
-use Rattle.text.specs.declared.boxes.Source.the-variants.{Stored, New}
-use Rattle.text.specs.Text.{before, lines}
-use Rattle.text.specs.Lines.{lineLength, lineFrom, either, LiesAt}
+use Rattle.characters.specs.Lines.{before, lines, withoutReturn, lineLength, lineFrom}
 
 -- ---- `line_end`: a turn at position i of the text
 
@@ -103,27 +99,25 @@ length-line-from text from = length-take-le (lineLength (drop from text)) (drop 
 pub end-of-line : (text line : List ℕ) (from : ℕ) → line ≡ lineFrom text from → from + length line ≡ from + lineLength (drop from text)
 end-of-line text line from e = ap (λ (n : ℕ). from + n) (ap length e ∙ length-line-from text from)
 
--- ---- `line_of`: `text` is the lent slice that the source names
+-- ---- `without_return`
 
-module _ (stored new text : RefT (List ℕ)) where
-  named-bytes : (source : Source) → text ≡ either source stored new → either source (stored .now) (new .now) ≡ text .now
-  named-bytes Stored e = rw e
-  named-bytes New e = rw e
+pub return-none : (l : List ℕ) → length l ≡ 0 → l ≡ withoutReturn l
+unfolding withoutReturn
+return-none [] h = refl
+return-none (c ∷ cs) h = absurd (omega arith)
 
-  named-place : (source : Source) → text ≡ either source stored new → either source (stored .ptr) (new .ptr) ≡ text .ptr
-  named-place Stored e = rw e
-  named-place New e = rw e
+pub return-dropped : (l : List ℕ) → getD l (length l - 1) 0 ≡ 0x0D → take (length l - 1) l ≡ withoutReturn l
+unfolding withoutReturn
+return-dropped l e = rw (eq-eqb (getD l (length l - 1) 0) 0x0D e)
 
-  module _ (source : Source) (e : text ≡ either source stored new) where
-    pub named-length : length (text .now) ≡ length (either source (stored .now) (new .now))
-    named-length = ap length (sym (named-bytes source e))
+pub return-absent : (l : List ℕ) → (getD l (length l - 1) 0 ≡ 0x0D → ⊥) → l ≡ withoutReturn l
+unfolding withoutReturn
+return-absent l e = rw (ne-eqb (getD l (length l - 1) 0) 0x0D e)
 
-    module _ (from end : ℕ) (d : end ≡ from + lineLength (drop from (text .now))) where
-      pub named-end : from ≤ length (either source (stored .now) (new .now)) → end ≤ length (text .now)
-      named-end h = end-reach (text .now) from end (rw (named-bytes source e) at h) d
-
-      pub named-line : take (end - from) (drop from (text .now)) ≡ lineFrom (either source (stored .now) (new .now)) from
-      named-line = rw (named-bytes source e) (line-part (text .now) from end d)
-
-    pub named-lies : (from : ℕ) → LiesAt (either source (stored .ptr) (new .ptr)) from (text .ptr .0, from + text .ptr .1)
-    named-lies from = rw (named-place source e) (record { block = refl; offset = refl })
+pub length-without-return : (l : List ℕ) → length (withoutReturn l) ≤ length l
+unfolding withoutReturn
+length-without-return l = go (eqb (getD l (length l - 1) 0) 0x0D)
+  where
+    go : (t : Bool) → length (cond t (take (length l - 1) l) l) ≤ length l
+    go true = simp length-take (omega arith)
+    go false = omega arith
