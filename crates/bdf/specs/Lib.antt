@@ -1,0 +1,13 @@
+pub mod Words
+pub mod Keywords
+pub mod Positions
+pub mod Reader
+pub mod Font
+pub mod Writing
+pub mod Rising
+pub mod Stores
+pub mod Within
+pub mod Walk
+pub mod Usual
+pub mod Table
+pub mod Stands
