@@ -9,7 +9,7 @@
  * last one (right); by its baseline y is the first row of the cells (top), their last (bottom), their middle one, or the font's baseline
  * (alphabetic). Each further line has the same x, and is lower by the line height. A place may lie off the frame.
  *
- * Replies. Each reply has a code: STATION_OK, or the number of a refusal. Every call but station_walk checks the whole sheet first, so
+ * Replies. Each reply has a code: STATION_OK, or the number of a refusal. Every call that takes a sheet checks the whole sheet first, so
  * that it may answer each refusal of station_check; the refusals named with a call are its own, and come after those. docs/REFUSALS.md has
  * the cause of each refusal and what to do. In a refused reply the other fields are 0, and sheet, frame and output keep every byte.
  *
@@ -50,9 +50,9 @@ extern "C" {
  * means, and so its page, is the same in every version; another meaning would be another edition.
  */
 #define STATION_VERSION_MAJOR 1
-#define STATION_VERSION_MINOR 0
+#define STATION_VERSION_MINOR 1
 #define STATION_VERSION_PATCH 0
-#define STATION_VERSION "1.0.0"
+#define STATION_VERSION "1.1.0"
 
 /* The most bytes that a sheet, a frame, a page, a slot and with it a text can have; a style has always as many. */
 #define STATION_MOST_SHEET 65536
@@ -115,7 +115,10 @@ enum station_code {
     STATION_REFUSED_PLACE = 15,
     STATION_REFUSED_STYLE = 16,
     STATION_REFUSED_OUTPUT_TOO_SHORT = 17,
-    STATION_REFUSED_WHITESPACE = 18
+    STATION_REFUSED_WHITESPACE = 18,
+    STATION_REFUSED_BDF_LINE = 19,
+    STATION_REFUSED_BDF_LIMIT = 20,
+    STATION_REFUSED_BDF_ENCODING = 21
 };
 
 /* A code and a value: an index, yes or no as 1 or 0, or a length. */
@@ -244,6 +247,16 @@ station_box station_set_place_on_sheet(uint8_t *sheet, size_t sheet_length, uint
 
 /* Refusals: STATION_REFUSED_NO_SUCH, STATION_REFUSED_STYLE. */
 station_box station_set_style_on_sheet(uint8_t *sheet, size_t sheet_length, uint32_t item, const uint8_t *style, size_t style_length);
+
+/* ---- a font file ---- */
+
+/*
+ * Reads a font in the Glyph Bitmap Distribution Format 2.1, without a sheet, and writes it to the head of the output: a font record of 28 bytes,
+ * whose offsets count from its own first byte, then its atlas and its mapping. value: the font's length; the output's bytes past it are kept.
+ * Refusals: STATION_REFUSED_BDF_LINE, STATION_REFUSED_BDF_LIMIT and STATION_REFUSED_BDF_ENCODING, by the first line at fault; then
+ * STATION_REFUSED_OUTPUT_TOO_SHORT; and none of station_check.
+ */
+station_number station_read_bdf(const uint8_t *file, size_t file_length, uint8_t *output, size_t output_length);
 
 /* ---- a line of text ---- */
 

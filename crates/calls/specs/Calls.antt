@@ -20,6 +20,7 @@ use Rattle.text.specs.Text.{next, boundingBox}
 use Rattle.page.specs.Page.{pageHeader}
 use Rattle.sheet.specs.Fields.{frameWidth, frameHeight, fontCount, itemCount}
 use Rattle.sheet.specs.Check.{check}
+use Rattle.bdf.specs.Font.{fontOf, fontBytes, readCode}
 use Rattle.records.specs.Records.{font, item, itemFont}
 use Rattle.sheet.specs.Edits.{Edit, itemNumber, refusal, edited}
 use Rattle.drawing.specs.Drawing.{itemLayer, freshDrawing, pixelCount, whitespaceLayer, whitespaceNext, damage, repainted}
@@ -154,6 +155,11 @@ pageReply b frame output = numberReply (pageCode b frame output) (length (netpbm
 -- "output past the page keeps its bytes"
 unfoldable pub pageOutput : List ℕ → List ℕ → List ℕ → List ℕ
 pageOutput b frame output = unlessRefused (pageCode b frame output) (netpbm b frame ++ drop (length (netpbm b frame)) output) output
+
+-- ---- station_read_bdf, which takes no sheet: its code is `readCode` of bdf's Font.antt, and the output after it is `written` there
+
+unfoldable pub readBdfReply : List ℕ → ℕ → Number
+readBdfReply file n = numberReply (readCode file n) (length (fontBytes (fontOf file)))
 
 -- ---- station_walk: "at or past its end it says so and keeps the offset, otherwise it gives character and next offset, or 10"
 

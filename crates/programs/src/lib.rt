@@ -1,4 +1,4 @@
-// What the programs share: words, numbers and a sheet's refusal written, and the number of its pixels.
+// What the programs share: words, numbers, refusals and files written, and the number of a sheet's pixels.
 use libc::STDERR_FILENO;
 use libc::STDOUT_FILENO;
 use sheet::fields::frame_height;
@@ -68,6 +68,16 @@ fn write_refused_to(file: i32, code: u32) {
 pub fn write_refused(code: u32) {
     write_refused_to(STDOUT_FILENO, code);
     write_refused_to(STDERR_FILENO, code);
+}
+
+// Writes the first k bytes to standard output; where the write fails or ends early, the fault is said on standard error.
+pub fn write_part(bytes: &[u8], k: usize, fault: &[u8]) {
+    if k <= bytes.len() {
+        let part = &bytes[0..k];
+        if !io::write_all(STDOUT_FILENO, part) {
+            io::write_all(STDERR_FILENO, fault);
+        }
+    }
 }
 
 // The number of the page's pixels; 0 for a sheet that is refused.

@@ -1,7 +1,7 @@
 -- The outcome of each call, one law for each way out: refused, or what is done where the code is 0. Assumes nothing.
-use Prim.Native.Nat.{ℕ, suc, _-_}
+use Prim.Native.Nat.{ℕ, zero, suc, _-_}
 use native.Mathlib.Omega.{arith}
-use mathlib.Core.Path.{_≡_, sym, ap, _∙_}
+use mathlib.Core.Path.{_≡_, refl, sym, ap, _∙_}
 use mathlib.Core.Bool.{Bool, true, false}
 use mathlib.Core.List.{List, _++_}
 use lib.ListN.{length, drop}
@@ -18,6 +18,9 @@ use Rattle.mapping.specs.Entries.{WithinLimit}
 use Rattle.mapping.specs.Mapping.{index, contains}
 use Rattle.line.specs.declared.MonoFont.{MonoFont}
 use Rattle.sheet.specs.Fields.{frameWidth, frameHeight, fontAt, mappingBytes}
+use Rattle.bdf.specs.declared.Outcome.{Outcome}
+use Rattle.bdf.specs.declared.Outcome.the-variants.{Refused, Written}
+use Rattle.bdf.specs.Font.{fontOf, fontBytes, readCode, outcomeOf, outcome}
 use Rattle.records.specs.Records.{monoFont, font}
 use Rattle.drawing.proofs.Readings.{mapping-limit}
 use Rattle.calls.specs.declared.Number.{Number}
@@ -26,7 +29,7 @@ use Rattle.calls.specs.declared.Box.{Box}
 use Rattle.calls.specs.declared.Step.{Step}
 use Rattle.page.specs.Page.{pageHeader}
 use Rattle.page.specs.Room.{PageFits}
-use Rattle.calls.specs.Calls.{netpbm, numberReply, positionReply, boxReply, yesNo, fontCode, indexReply, containsReply, pageCode, pageReply, pageOutput, stepReply, walkReply}
+use Rattle.calls.specs.Calls.{netpbm, numberReply, positionReply, boxReply, yesNo, fontCode, indexReply, containsReply, pageCode, pageReply, pageOutput, readBdfReply, stepReply, walkReply}
 use Rattle.calls.specs.Replies.{refusedNumber, refusedPosition, refusedBox}
 use Rattle.page.proofs.Pages.{length-page-le}
 use Rattle.calls.proofs.Refusals.{font-listed, page-framed, page-accepted, page-in}
@@ -110,6 +113,29 @@ module _ (b frame output : List ℕ) (n w h : ℕ) (e : n ≡ pageCode b frame o
   pub page-output : (out : List ℕ) → out ≡ (pageHeader w h ++ frame) ++ drop (length (pageHeader w h ++ frame)) output → out ≡ pageOutput b frame output
   unfolding pageOutput
   page-output out q = done n (pageCode b frame output) e out _ output z (q ∙ rw same-page)
+
+-- ---- station_read_bdf
+
+-- the reply that says what reading a file came to
+abbrev outcomeReply : Outcome → Number
+outcomeReply (Refused code) = refusedNumber code
+outcomeReply (Written size) = record { code = 0; value = size }
+
+outcome-reply : (code size : ℕ) → outcomeReply (outcomeOf code size) ≡ numberReply code size
+unfolding numberReply
+outcome-reply zero size = refl
+outcome-reply (suc n) size = refl
+
+module _ (file : List ℕ) (n : ℕ) (o : Outcome) (e : o ≡ outcome file n) where
+  read-reply : (o′ : Outcome) → o ≡ o′ → outcomeReply o′ ≡ readBdfReply file n
+  unfolding readBdfReply outcome
+  read-reply o′ q = ap outcomeReply (sym q ∙ e) ∙ outcome-reply (readCode file n) (length (fontBytes (fontOf file)))
+
+  pub read-refused : (code : ℕ) (r : Number) → o ≡ Refused code → r ≡ refusedNumber code → r ≡ readBdfReply file n
+  read-refused code r q d = d ∙ read-reply (Refused code) q
+
+  pub read-written : (size : ℕ) → o ≡ Written size → _≡_ {A = Number} (record { code = 0; value = size }) (readBdfReply file n)
+  read-written size q = read-reply (Written size) q
 
 -- ---- station_walk
 

@@ -14,7 +14,7 @@ use Rattle.geometry.proofs.Layers.{length-paint}
 use Rattle.sheet.specs.Fields.{frameWidth}
 use Rattle.sheet.specs.Check.{check}
 use Rattle.sheet.specs.Edits.{Edit, refusal, edited}
-use Rattle.sheet.proofs.Refusals.{need-zero, orElse-zero}
+use Rattle.characters.proofs.Refusals.{need-zero, orElse-zero}
 use Rattle.sheet.proofs.Acceptance.{accepted}
 use Rattle.sheet.proofs.Unchanged.{same-frameWidth}
 use Rattle.drawing.specs.Drawing.{pixelCount, columnOf, rowOf, page, repainted}

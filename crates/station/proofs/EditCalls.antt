@@ -12,7 +12,7 @@ use Rattle.characters.specs.Refusal.{unlessRefused}
 use Rattle.sheet.specs.Fields.{itemAt}
 use Rattle.sheet.specs.Accepted.{Accepted}
 use Rattle.sheet.specs.Edits.{Edit, newPlace, itemNumber, edited, putPlace, biased}
-use Rattle.sheet.proofs.Refusals.{orElse-zero}
+use Rattle.characters.proofs.Refusals.{orElse-zero}
 use Rattle.sheet.proofs.Acceptance.{accepted}
 use Rattle.sheet.proofs.Stays.{stays}
 use Rattle.sheet.proofs.Unchanged.{same-frameWidth, same-frameHeight}

@@ -12,7 +12,7 @@ use Rattle.text.specs.Signed.{SignedPoint, signedPoint, SignedRectangle, signed
 use Rattle.sheet.specs.Fields.{itemCount}
 use Rattle.sheet.specs.Check.{check}
 use Rattle.sheet.specs.Edits.{Edit}
-use Rattle.sheet.proofs.Refusals.{need-zero, orElse-zero}
+use Rattle.characters.proofs.Refusals.{need-zero, orElse-zero}
 use Rattle.drawing.specs.Drawing.{pixelCount}
 use Rattle.drawing.proofs.Exact.{Bytes, SheetExact, sheet-exact}
 use Rattle.drawing.proofs.EditedExact.{EditBytes, edit-exact}

@@ -1,5 +1,6 @@
-// The exported calls, for a host in C. Each runs the check first, then its own tests, rising; a refused call has its number for a
-// code and zeros, and leaves sheet, frame and output as they were.
+// The exported calls, for a host in C. Each that takes a sheet runs the check first, then its own tests, rising; a refused call has its
+// number for a code and zeros, and leaves sheet, frame and output as they were.
+use bdf::Outcome;
 pub use calls::Box;
 pub use calls::Number;
 pub use calls::Position;
@@ -36,9 +37,11 @@ use records::mapping_bytes;
 use sheet::fields::frame_height;
 use sheet::fields::frame_width;
 ghost use mathlib.Core.Path.{_≡_};
+ghost use lib.ListN.{length};
 ghost use Rattle.sheet.specs.Check.{check};
 ghost use Rattle.sheet.specs.Edits.{newText, newPlace, newStyle};
-ghost use Rattle.calls.specs.Calls.{indexReply, containsReply, boundingBoxReply, drawItemReply, drawItemFrame, whitespaceReply, whitespaceFrame, drawCode, drawFrame, editReply, editSheet, editFrame, onSheetReply, onSheetSheet, pageReply, pageOutput, walkReply};
+ghost use Rattle.bdf.specs.Font.{written};
+ghost use Rattle.calls.specs.Calls.{indexReply, containsReply, boundingBoxReply, drawItemReply, drawItemFrame, whitespaceReply, whitespaceFrame, drawCode, drawFrame, editReply, editSheet, editFrame, onSheetReply, onSheetSheet, pageReply, pageOutput, readBdfReply, walkReply};
 
 // The number of the sheet's first refusal, or 0 for a sheet that is accepted.
 #[no_mangle]
@@ -270,6 +273,21 @@ pub extern "C" fn station_write_page(sheet: &[u8], frame: &[u8], output: &mut [u
     Number {
         code: 0,
         value: length as u32,
+    }
+}
+
+// The font of a BDF file, stored at the head of the output, and its length.
+#[no_mangle]
+pub extern "C" fn station_read_bdf(file: &[u8], output: &mut [u8]) -> Number
+    ensures { λ r. ⌜ r ≡ readBdfReply (now (file .entry)) (length (now (output .entry))) ⌝ }
+    ensures { λ _. ⌜ now (output .exit) ≡ written (now (file .entry)) (now (output .entry)) ⌝ }
+{
+    match bdf::read(file, output) {
+        Outcome::Refused(code) => refused_number(code),
+        Outcome::Written(length) => Number {
+            code: 0,
+            value: length,
+        },
     }
 }
 

@@ -1,22 +1,11 @@
 // Reads a sheet from standard input; writes its page, or `refused`, its number and a feed. Where no page was written, standard error
 // says so.
-use libc::STDERR_FILENO;
 use libc::STDIN_FILENO;
-use libc::STDOUT_FILENO;
 use programs::pixel_count;
+use programs::write_part;
 use programs::write_refused;
 use station::station_draw;
 use station::station_write_page;
-
-// Writes the first k bytes to standard output; a write that fails, or ends early, is said on standard error.
-fn write_part(bytes: &[u8], k: usize) {
-    if k <= bytes.len() {
-        let part = &bytes[0..k];
-        if !io::write_all(STDOUT_FILENO, part) {
-            io::write_all(STDERR_FILENO, b"page not written\n");
-        }
-    }
-}
 
 // Draws the page on the frame and writes it, or the refusal.
 fn write_page_of(sheet: &[u8], frame: &mut [u8], page: &mut [u8]) {
@@ -30,7 +19,7 @@ fn write_page_of(sheet: &[u8], frame: &mut [u8], page: &mut [u8]) {
         write_refused(reply.code);
         return;
     }
-    write_part(&page[..], reply.value as usize);
+    write_part(&page[..], reply.value as usize, b"page not written\n");
 }
 
 // A file of more than 65,536 bytes is read past that limit, and so refused. A page has at most 15 bytes more than pixels.
