@@ -3,7 +3,7 @@
 The program of tests/host/check.c, which answers station_check for many sheets, is the first argument of tests/tools.py.
 
 Usage: python3 tests/explained.py > FILE
-writes the samples and the stored sheets, each after its length, as the programs of tests/host read them.
+writes the samples, the stored sheets and the stored BDF files, each after its length, as the programs of tests/host read them.
 """
 import collections
 import random
@@ -11,6 +11,7 @@ import struct
 import subprocess
 import sys
 
+import stored_fonts
 import stored_sheets
 from tool_runs import ROOT, SAMPLES, same
 from station_sheet.explain import explain
@@ -176,4 +177,5 @@ def test_explain_bytes(_):
 
 
 if __name__ == "__main__":
-    sys.stdout.buffer.write(with_lengths([path.with_suffix(".sheet").read_bytes() for path in SAMPLES] + stored()))
+    files = [content for _, _, content in stored_fonts.fill()]
+    sys.stdout.buffer.write(with_lengths([path.with_suffix(".sheet").read_bytes() for path in SAMPLES] + stored() + files))

@@ -1,5 +1,5 @@
-"""Tests of .ci/run and tests/oracle.sh in a clone that has no files of embedded-graphics: what is counted, skipped and said. A stand-in for
-rt proves nothing and takes no time. And of tests/paper.sh in a tree that was unpacked, and is no clone."""
+"""Tests of .ci/run, tests/oracle.sh and tests/bdf.sh in a clone that has no files of embedded-graphics, no real fonts and no FreeType: what is counted,
+skipped and said. A stand-in for rt proves nothing and takes no time. And of tests/paper.sh in a tree that was unpacked, and is no clone."""
 import os
 import re
 import shutil
@@ -24,6 +24,7 @@ def make_clone(folder, kit=KIT, host="echo '2 passed, 0 failed'"):
         shutil.copy(ROOT / name, clone / name)
     script(clone / "tests/host.sh", host)
     script(clone / "tests/paper.sh", "echo '7 passed, 0 failed'")
+    script(clone / "tests/bdf.sh", "echo '5 passed, 0 failed'")
     script(folder / "bin/rt", f"case $1 in version) echo '{kit}' ;; ci) echo '3 passed, 0 failed' ;; esac")
     script(folder / "bin/rustc", "exit 1")
     return clone
@@ -41,7 +42,7 @@ def run(folder, *words, **variables):
 def test_gate_without_crate(folder):
     make_clone(folder)
     status, lines = run(folder, ".ci/run")
-    same("status and last line", (status, lines[-1]), (0, "12 passed, 0 failed"))
+    same("status and last line", (status, lines[-1]), (0, "17 passed, 0 failed"))
     same("the line before", (lines[-2].startswith("skipped: "), "EMBEDDED_GRAPHICS=FOLDER tests/oracle.sh" in lines[-2]), (True, True))
     same("notices of the kit", [line for line in lines if line.startswith("notice: ")], [])
 
@@ -49,7 +50,7 @@ def test_gate_without_crate(folder):
 def test_gate_with_another_kit(folder):
     make_clone(folder, kit="rattle-kit-9 logic 0")
     status, lines = run(folder, ".ci/run")
-    same("status and last line", (status, lines[-1]), (0, "12 passed, 0 failed"))
+    same("status and last line", (status, lines[-1]), (0, "17 passed, 0 failed"))
     notice = f"notice: this is the kit 'rattle-kit-9 logic 0', and docs/KIT.md records '{KIT}'"
     same("notices of the kit", [line for line in lines if line.startswith("notice: ")], [notice])
 
@@ -57,10 +58,10 @@ def test_gate_with_another_kit(folder):
 def test_gate_counts(folder):
     clone = make_clone(folder, host="echo '2 passed, 1 failed'; exit 1")
     status, lines = run(folder, ".ci/run")
-    same("status and last line", (status, lines[-1]), (1, "12 passed, 1 failed"))
+    same("status and last line", (status, lines[-1]), (1, "17 passed, 1 failed"))
     script(clone / "tests/host.sh", "exit 3")
     status, lines = run(folder, ".ci/run")
-    same("a part without a count", (status, lines[-1]), (1, "10 passed, 1 failed"))
+    same("a part without a count", (status, lines[-1]), (1, "15 passed, 1 failed"))
 
 
 def test_oracle_without_crate(folder):
@@ -76,6 +77,29 @@ def test_oracle_without_crate(folder):
         path.touch()
     status, lines = run(folder, "tests/oracle.sh", EMBEDDED_GRAPHICS="crate")
     same("a folder with a file less", (status, lines[0].endswith("which has no src/draw_target/mod.rs")), (1, True))
+
+
+def test_bdf_without_fonts(folder):
+    """Without a C compiler, FreeType and real fonts three lines, and the other tests are made; a comparison that stops is a failure."""
+    clone = make_clone(folder)
+    for name in ("cc", "apt-get", "sudo"):
+        script(folder / "bin" / name, "exit 1")
+    shutil.copy(ROOT / "tests/bdf.sh", clone / "tests/bdf.sh")
+    status, lines = run(folder, "tests/bdf.sh")
+    same("without read_bdf", (status, lines[-1]), (1, "0 passed, 1 failed"))
+    script(clone / "target/bin/read_bdf", "exit 1")
+    (clone / "tests/bdf_compare.py").write_text("import sys\nprint('ok', *sys.argv[2:])\n", encoding="ascii")
+    status, lines = run(folder, "tests/bdf.sh")
+    same("status, and lines that are skipped", (status, [line.startswith("skipped: ") for line in lines]), (0, [True, True, True, False, False]))
+    same("what is compared", lines[3:], ["ok - - target/bdf", "1 passed, 0 failed"])
+    (folder / "fonts").mkdir()
+    (folder / "fonts/a.bdf").touch()
+    status, lines = run(folder, "tests/bdf.sh", folder / "fonts")
+    same("with fonts", (status, lines[2:]), (0, [f"ok - - target/bdf {folder / 'fonts'}/a.bdf", "1 passed, 0 failed"]))
+    (clone / "tests/bdf_compare.py").write_text("print('ok 1')\nprint('FAILED 2')\nraise SystemExit(1)\n", encoding="ascii")
+    same("a test that failed", run(folder, "tests/bdf.sh")[1][-1], "1 passed, 1 failed")
+    (clone / "tests/bdf_compare.py").write_text("print('ok 1')\nraise ValueError\n", encoding="ascii")
+    same("a comparison that stopped", run(folder, "tests/bdf.sh")[1][-1], "1 passed, 1 failed")
 
 
 def test_paper_without_git(folder):

@@ -27,7 +27,7 @@ def test_guide(folder):
     commands, files = 0, 0
     for block in blocks():
         first, _, rest = block.partition("\n")
-        if name := re.fullmatch(r"# (\S+\.(?:toml|txt))", first):
+        if name := re.fullmatch(r"# (\S+\.(?:toml|txt|bdf))", first):
             (folder / name[1]).write_text(rest, encoding="utf-8")
             files += 1
         if "$ " not in block:
@@ -47,5 +47,5 @@ def test_keys_of_guide(_):
     """Each key of a description and each word of a bitmap font stands in the guide."""
     from station_sheet import bitmap, description
     text = (ROOT / "tools/README.md").read_text(encoding="utf-8")
-    keys = description.ITEM_KEYS | description.BITMAP_KEYS | description.ATLAS_KEYS | {"width", "height", "paper"} | set(bitmap.WORDS) | {"glyph"}
+    keys = description.ITEM_KEYS | description.BITMAP_KEYS | description.BDF_KEYS | description.ATLAS_KEYS | {"width", "height", "paper"} | set(bitmap.WORDS) | {"glyph"}
     same("keys that the guide does not have", sorted(key for key in keys if not re.search(rf"\b{key}\b", text)), [])

@@ -5,8 +5,8 @@
 #   tests/host.sh
 #
 # Each test prints 'ok NAME' or 'FAILED NAME'; the last line is 'N passed, M failed', and the exit status is 1 if one failed. A compiler that
-# is missing is installed if that is possible. The archive is made if it is missing or older than the crates, and station_page if it is
-# missing.
+# is missing is installed if that is possible. The archive is made if it is missing or older than the crates, and station_page and read_bdf if
+# they are missing.
 set -uo pipefail
 cd "$(dirname "$0")/.."
 
@@ -54,7 +54,7 @@ make_archive() {
 }
 
 make_program() {
-  [ -x target/bin/station_page ] || rt check station_page
+  [ -x "target/bin/$1" ] || rt check "$1"
 }
 
 # header COMPILER STANDARD LANGUAGE: the header alone, and twice, without a warning.
@@ -104,7 +104,9 @@ worst() {
 
 mkdir -p "$out"
 try "libstation.a" make_archive
-try "station_page" make_program
+for name in station_page read_bdf; do
+  try "$name" make_program "$name"
+done
 for name in gcc g++ clang clang++; do
   try "compiler $name" has_compiler "$name"
 done

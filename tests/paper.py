@@ -18,15 +18,16 @@ sys.dont_write_bytecode = True
 os.chdir(os.path.join(os.path.dirname(os.path.abspath(__file__)), ".."))
 sys.path.insert(0, "tools")
 import paper_model as model  # noqa: E402
-from station_sheet import explain, layout  # noqa: E402
+from station_sheet import bdf, explain, layout  # noqa: E402
 from station_sheet.description import FontPart, ItemPart, assemble  # noqa: E402
 from station_sheet.show import decoration, grey  # noqa: E402
 
 PAPER, DEMANDS = "docs/SHEET.md", "docs/DEMANDS.md"
 TITLES = ["Numbers and bytes", "Geometry", "Characters", "Mapping", "Atlas", "One line", "Text", "Sheet", "Drawing and edits", "Page and host",
-          "Replies and refusals", "Worked examples", "How far to trust this"]
-# of the demands and of the rules, which stay as they were given
+          "Fonts from BDF", "Replies and refusals", "Worked examples", "How far to trust this"]
+# of the demands and of the rules, which stay as they were given: those of a section that was added later by themselves
 RULES_SHA256 = "df7653ae1b5fa7c823a8a3e8267ee0a349ff420aeddfc030918767c02936e3b3"
+ADDED_SHA256 = {"Fonts from BDF": "3003de7df8c001d7575b8bc67b8094a0c026d0731d9fecd9eea926e9634203e9"}
 DEMANDS_SHA256 = "81032766de38756c2c69d7a4e908163f27ada3da2dabedc28dca7e1ffc7a224a"
 
 
@@ -109,8 +110,11 @@ def demands():
 
 @test("the rules are unchanged in their short form")
 def rules():
-    set_off = [spread(rule) for rule in re.findall(r"(?:^>.*\n)+", read(PAPER), flags=re.M)]
-    return differences(hashlib.sha256(" ".join(set_off).encode()).hexdigest(), RULES_SHA256, "sha256 of the rules: ")
+    def sha256(texts):
+        set_off = [spread(rule) for text in texts for rule in re.findall(r"(?:^>.*\n)+", text, flags=re.M)]
+        return hashlib.sha256(" ".join(set_off).encode()).hexdigest()
+    bad = differences(sha256(text for title, text in SECTIONS.items() if title not in ADDED_SHA256), RULES_SHA256, "sha256 of the rules: ")
+    return bad + [d for title, wanted in ADDED_SHA256.items() for d in differences(sha256([SECTIONS[title]]), wanted, f"sha256 of the rules of {title}: ")]
 
 
 @test("each definition and theorem that the paper names is there")
@@ -378,6 +382,99 @@ def limits_as_in_tools():
     return bad
 
 
+# ---- fonts from BDF
+
+BDF = "Fonts from BDF"
+READER = "crates/bdf/specs/Reader.antt"
+
+
+def bdf_limits():
+    """The least and the most of each limit of a BDF font, as they are written."""
+    return {row[0]: (row[1], row[2]) for row in table(BDF, ["limit", "least", "most", "else"])}
+
+
+@test("the limits of BDF fonts are those of the definitions and of the tools")
+def limits_of_bdf():
+    source = read(READER)
+    origin = integer(re.search(r"^origin = (\S+)$", source, re.M)[1])
+    sides = {integer(n) for n in re.findall(r"leb \([wh] \.size\) (\S+)", source)}
+    tested_ = {"side of the cell": (0, *sides), "offset of the cell or of a BBX": (-origin, origin),
+               "baseline": (0, integer(re.search(r"leb \(baseline .*?\)\) (\S+)", source)[1])),
+               "bytes of the mapping": (0, integer(re.search(r"leb \(r \.mapping \+ .*?\)\) ([\d_]+)", source)[1])),
+               "encoding": (0, int(re.search(r"leb \(n \.size\) 0x([0-9A-F]+)", source)[1], 16))}
+    limits = {name: tuple(map(integer, pair)) for name, pair in bdf_limits().items()}
+    tools = {"side of the cell": layout.MOST_CELL, "offset of the cell or of a BBX": bdf.MOST_OFFSET, "baseline": bdf.MOST_BASELINE,
+             "bytes of the mapping": bdf.MOST_MAPPING}
+    bad = differences(limits, tested_) + [d for name, most in tools.items() for d in differences(limits[name][1], most, f"{name}: ")]
+    (low, high), side, most = bdf_limits()["offset of the cell or of a BBX"], bdf_limits()["side of the cell"][1], bdf_limits()["baseline"][1]
+    rows = dict(table(BDF, ["line", "refused with 20 if"]))
+    for line, phrases in (("FONTBOUNDINGBOX", [f"outside 0 to {side}", f"outside {low} to {high}", f"above {most}"]), ("BBX", [f"outside {low} to {high}"])):
+        bad += [f"{line}: no {phrase!r}" for phrase in phrases if phrase not in rows[line]]
+    return bad + differences(origin, integer(re.search(r"offset beyond ±([\d,]+) is", SECTIONS[BDF])[1]), "rule of the offsets: ")
+
+
+@test("the keywords are those of crates/bdf/specs/Keywords.antt")
+def keywords():
+    letters = re.findall(r"^(\w+) = (\w ∷ .*)\[\]$", read("crates/bdf/specs/Keywords.antt"), re.M)
+    defined = {word.replace(" ∷ ", "") for _, word in letters}
+    listed = [row[0] for which in (0, 1) for row in table(BDF, ["keyword", "behind it", "gives"], which)]
+    return differences({*listed, "ENDPROPERTIES", "COMMENT"}, defined) + differences(len(listed), len(set(listed)), "once each: ")
+
+
+def bdf_file():
+    (_, file), (_, dump) = blocks("Worked examples", "A font from BDF")
+    return file.encode("ascii"), dumped(dump)
+
+
+@test("the record of a BDF font has the fields of a font record, and the values of the example")
+def record_of_bdf():
+    rows, fields = table(BDF, ["field", "value"]), [(row[0], row[1], row[2]) for row in rows_of(1)]
+    bad = differences([row[0] for row in rows], [name for _, _, name in fields])
+    _, font = bdf_file()
+    number = {name: model.number(font, at, size) for at, size, name in fields}
+    names = {"N": 2, "cw": number["cell width"], "ch": number["cell height"], "H": number["cell height"], "Y": -1}
+    names["atlas length"] = number["atlas length"]
+    for name, text in rows:
+        formula = re.split(", ", text)[0]
+        if "number of" in formula:
+            continue
+        for word in sorted(names, key=len, reverse=True):
+            formula = re.sub(rf"\b{word}\b", str(names[word]), formula)
+        found = eval(formula.replace("×", "*").replace("−", "-").replace("/", "//"), {"__builtins__": {}})
+        bad += differences(found, number[name], f"{name}: ")
+    return bad
+
+
+@test("the BDF file of the examples: its font, and other lines in the place of its own")
+def bdf_example():
+    file, font = bdf_file()
+    output = bytearray(b"\x5a") * 80
+    bad = differences((model.read_bdf(file, output), output), ((0, len(font)), font + b"\x5a" * (80 - len(font))))
+    short = bytearray(b"\x5a") * (len(font) - 1)
+    bad += differences((model.read_bdf(file, short), set(short)), ((17, 0), {0x5A}), "an output a byte shorter: ")
+    for line, other, reply in table("Worked examples", ["line", "in its place", "reply"]):
+        line, other = line.strip("`").encode("ascii") + b"\n", b"" if other == "(left out)" else other.strip("`").encode("ascii") + b"\n"
+        at = (b"\n" + file).index(b"\n" + line)
+        output = bytearray(80)
+        wanted = tuple(map(integer, reply.split(", ")))
+        bad += differences(model.read_bdf(file[:at] + other + file[at + len(line):], output), wanted, f"{line} -> {other}: ")
+        if wanted == (0, len(font)):
+            bad += differences(output[:len(font)], font, f"{line} -> {other}: ")
+    with open("crates/read_bdf/stdin", "rb") as stdin, open("crates/read_bdf/stdout", "rb") as stdout:
+        return bad + differences((file, font), (stdin.read(), stdout.read()), "the input and output of read_bdf: ")
+
+
+SHORTEST_BDF = b"STARTFONT 2.1\nFONT f\nSIZE 1 1 1\nFONTBOUNDINGBOX 64 64 0 0\nCHARS 0\nENDFONT\n"
+
+
+def longest_bdf():
+    """A file that gives the longest font: as many glyphs as the mapping has room for, and no byte of it unused."""
+    codes = [*range(2, 0x800), *range(0x800, 0x800 + 20_523)]
+    glyph = "STARTCHAR g\nENCODING %d\nSWIDTH 0 0\nDWIDTH 0 0\nBBX 0 0 0 0\nBITMAP\nENDCHAR\n"
+    head = f"STARTFONT 2.1\nFONT f\nSIZE 1 1 1\nFONTBOUNDINGBOX 64 64 0 0\nCHARS {len(codes)}\n"
+    return (head + "".join(glyph % code for code in codes) + "ENDFONT\n").encode("ascii")
+
+
 # ---- refusals and calls
 
 def refusals():
@@ -401,7 +498,7 @@ def limit_rows():
 
 def numbered_phrases():
     """Of each refusal the phrases with numbers, of its rule and of its full text, with the limits and offsets in them."""
-    limit, most = limit_rows(), {row[2]: row[5].split(" to ")[-1] for row in rows_of(2)}
+    limit, font, most = limit_rows(), bdf_limits(), {row[2]: row[5].split(" to ")[-1] for row in rows_of(2)}
     at = {row[2]: row[0] for row in rows_of(2)}
     style = {field: at[field] - at["text mode"] for field in STYLE_FIELDS}
     (low, high), (short, long), size = limit["new x or y"], limit["bytes of the file"], limit["bytes of a new style"][1]
@@ -421,6 +518,9 @@ def numbered_phrases():
         16: ([f"not {size} bytes"], [f"not have {size} bytes", f"byte {style['text mode']} or {style['background mode']} is above {most['text mode']}",
                                      f"byte {style['underline mode']} or {style['strikethrough mode']} above {most['underline mode']}"]),
         18: ([f"above {limit['whitespace'][1]}"], [f"above {limit['whitespace'][1]}"]),
+        20: ([f"baseline above {font['baseline'][1]}", f"mapping above {font['bytes of the mapping'][1]} bytes"], [
+            f"side of the cell is above {font['side of the cell'][1]}", f"offset is outside {' to '.join(font['offset of the cell or of a BBX'])}",
+            f"baseline is above {font['baseline'][1]}", f"more than {font['bytes of the mapping'][1]} bytes"]),
     }
 
 
@@ -805,6 +905,7 @@ def ranges():
              "width of a bounding box": (box_of(b"")[3], box_of(b"A" * 256)[3]),
              "height of a bounding box": (box_of(b"")[4], box_of(b"A" + b"\n" * 254 + b"A", height=(0, 1_000), style=underlined)[4]),
              "length of a page file": tuple(len(model.station_page(sheet_of(frame=f, fonts=0, items=0))) for f in ((1, 1), (256, 256))),
+             "length of a font": tuple(model.read_bdf(file, bytearray(12_000_000))[1] for file in (SHORTEST_BDF, longest_bdf())),
              "side of a damage rectangle": (model.set_place(bytearray(sheet_of()), None, 0, 0, 0)[3],
                                             model.set_text(bytearray(sheet_of(wide, (512, 1), slot=9)), None, 0, b"A" * 9)[3])}
     return differences({row[0]: (integer(row[1]), integer(row[2])) for row in table("Replies and refusals", ["number", "least", "most"])}, found)
@@ -840,6 +941,25 @@ def stored_sheets():
         found.append(f"{len(found)} refused {code}" if code else f"{len(found)} accepted")
         at += 4 + size
     return [f"{f}, and not {w}" for f, w in zip(found, wanted.split("\n")[:-1], strict=True) if f != w]
+
+
+@test("the model on the stored BDF files")
+def stored_fonts():
+    data, wanted = stored("stored_fonts")
+    r, k, found = Reader(data), 0, []
+    while r.at < len(data):
+        file, output = r.take(r.number(4)), bytearray(65_536)
+        code, size = model.read_bdf(file, output)
+        found += [f"{k} refused {code}"] if code else [f"{k} font {size} {hash_of(output[:size])}", f"{k} short {model.read_bdf(file, bytearray(size - 1))[0]}"]
+        k += 1
+    return [f"{f}, and not {w}" for f, w in zip(found, wanted.split("\n")[:-1], strict=True) if f != w]
+
+
+def hash_of(font):
+    h = 0
+    for byte in font:
+        h = (31 * h + byte) % 1_000_003
+    return h
 
 
 class Reader:
@@ -947,6 +1067,16 @@ def pages_of_program():
     return bad
 
 
+@test("read_bdf gives the font of the paper")
+def font_of_program():
+    file, font = bdf_file()
+    bad = []
+    for changed, wanted in ((file, font), (file[:-9], b"refused 19\n"), (file + bytes(4_194_305 - len(file)), b"too long\n")):
+        done = subprocess.run(["target/bin/read_bdf"], input=changed, stdout=subprocess.PIPE, stderr=subprocess.DEVNULL, check=False).stdout
+        bad += differences(done, wanted, f"{len(changed)} bytes: ")
+    return bad
+
+
 # ---- references; those to a paper that is not here, when asked for
 
 def tracked():
@@ -1015,8 +1145,9 @@ def main(asked):
     tests = TESTS + ([("no file cites a paper that is not here", references)] if asked else [])
     failed = 0
     for name, function in tests:
-        if function is pages_of_program and not os.path.exists("target/bin/station_page"):
-            print(f"skipped {name}: target/bin/station_page is not built")
+        needed = {pages_of_program: "target/bin/station_page", font_of_program: "target/bin/read_bdf"}.get(function)
+        if needed and not os.path.exists(needed):
+            print(f"skipped {name}: {needed} is not built")
             tests = [t for t in tests if t[1] is not function]
             continue
         try:

@@ -1,6 +1,6 @@
 #!/usr/bin/env bash
 # Holds docs/SHEET.md to the definitions, the header, the tools and the stored answers (tests/paper.py). It needs Python 3.11 and nothing else; station_page
-# is asked too where it is built.
+# and read_bdf are asked too where they are built.
 #
 #   tests/paper.sh [references]
 #

@@ -1,4 +1,5 @@
 """A model of the station sheet that follows docs/SHEET.md and nothing else: it shows that the paper is enough. It uses nothing of the crates, and is plain and slow.
+Its reader of BDF fonts has nothing of the other one, tests/bdf_model.py, nor of that of the tools.
 
 Each part has the title of the paper's section that it follows. The calls are the functions at the end: each takes the lent bytes and its numbers, changes sheet, frame
 and output (bytearrays) as the paper says, and returns its reply as a tuple, the code first. An edit with None for a frame is one on the sheet alone.
@@ -285,6 +286,146 @@ def page_file(b, frame):
     return b"P5\n%d %d\n255\n" % (number(b, 2, 2), number(b, 4, 2)) + frame
 
 
+# ---- Fonts from BDF
+
+class Refused(Exception):
+    """The number of a refusal."""
+
+
+def allow(good, code=19):
+    if not good:
+        raise Refused(code)
+
+
+def file_lines(file):
+    return iter([line[:-1] if line[-1:] == b"\r" else line for line in file.split(b"\n")])
+
+
+def counting(lines):
+    """The words of the next line that counts."""
+    for line in lines:
+        words = line.replace(b"\t", b" ").split(b" ")
+        words = [word for word in words if word]
+        if words and words[0] != b"COMMENT":
+            return words
+    raise Refused(19)
+
+
+def is_over(lines):
+    """Whether no line that counts is left."""
+    try:
+        return not counting(lines)
+    except Refused:
+        return True
+
+
+def value_of(word):
+    digits, value = word[1:] if word[:1] == b"-" else word, 0
+    allow(digits and all(0x30 <= byte <= 0x39 for byte in digits))
+    for byte in digits:
+        value = 10 * value + byte - 0x30
+    return -value if word[:1] == b"-" else value
+
+
+def values_of(words, keyword, count):
+    allow(words[0] == keyword and len(words) == 1 + count)
+    return [value_of(word) for word in words[1:]]
+
+
+def count_in(words, keyword):
+    count = values_of(words, keyword, 1)[0]
+    allow(count >= 0)
+    return count
+
+
+def are_hexadecimal(digits):
+    return all(0x30 <= byte <= 0x39 or 0x41 <= byte <= 0x46 or 0x61 <= byte <= 0x66 for byte in digits)
+
+
+def near(*offsets):
+    return all(-1_000_000_000 <= offset <= 1_000_000_000 for offset in offsets)
+
+
+def sequence(v):
+    """The bytes whose step gives the character v."""
+    if v < 0x80:
+        return bytes([v])
+    if v < 0x800:
+        return bytes([0xC0 + v // 64, 0x80 + v % 64])
+    if v < 0x10000:
+        return bytes([0xE0 + v // 4_096, 0x80 + v // 64 % 64, 0x80 + v % 64])
+    return bytes([0xF0 + v // 262_144, 0x80 + v // 4_096 % 64, 0x80 + v // 64 % 64, 0x80 + v % 64])
+
+
+def bdf_cell(lines):
+    """The lines up to FONTBOUNDINGBOX; the cell."""
+    allow(counting(lines) == [b"STARTFONT", b"2.1"])
+    name = counting(lines)
+    allow(name[0] == b"FONT" and len(name) > 1)
+    values_of(counting(lines), b"SIZE", 3)
+    w, h, x, y = values_of(counting(lines), b"FONTBOUNDINGBOX", 4)
+    allow(0 <= w <= 64 and 0 <= h <= 64 and near(x, y) and h + y - 1 <= 255, 20)
+    return w, h, x, y
+
+
+def bdf_glyph(lines, cell, last, mapping):
+    """A glyph after one of the encoding `last`: its encoding, and the pixels of its cell that are on; the mapping grows."""
+    name = counting(lines)
+    allow(name[0] == b"STARTCHAR" and len(name) > 1)
+    words = counting(lines)
+    encoding, *second = values_of(words, b"ENCODING", 2 if len(words) == 3 else 1)
+    allow(not second or encoding == -1)
+    allow(encoding >= 0 and is_character(encoding) and encoding > last, 21)
+    mapping += sequence(encoding) if encoding else bytes(3)
+    allow(len(mapping) <= 65_535, 20)
+    values_of(counting(lines), b"SWIDTH", 2)
+    values_of(counting(lines), b"DWIDTH", 2)
+    w, h, x, y = values_of(counting(lines), b"BBX", 4)
+    left, foot = cell[2:]
+    allow(w >= 0 and h >= 0 and near(x, y) and left <= x and x + w <= left + cell[0] and foot <= y and y + h <= foot + cell[1], 20)
+    words = counting(lines)
+    if words[0] == b"ATTRIBUTES":
+        allow(len(words) == 2 and len(words[1]) == 4 and are_hexadecimal(words[1]))
+        words = counting(lines)
+    allow(words == [b"BITMAP"])
+    on = []
+    for v in range(h):
+        row = next(lines, None)
+        allow(row is not None and len(row) == 2 * ((w + 7) // 8) and are_hexadecimal(row))
+        on += [(x - left + u, foot + cell[1] - (y + h) + v) for u in range(w) if int(row[u // 4:u // 4 + 1], 16) >> 3 - u % 4 & 1]
+    allow(counting(lines) == [b"ENDCHAR"])
+    return encoding, on
+
+
+def bdf_font(file):
+    """Record, atlas and mapping."""
+    lines = file_lines(file)
+    cell = bdf_cell(lines)
+    words = counting(lines)
+    if words[0] == b"STARTPROPERTIES":
+        left = count_in(words, b"STARTPROPERTIES")
+        while left:
+            left -= bool(counting(lines))
+        allow(counting(lines) == [b"ENDPROPERTIES"])
+        words = counting(lines)
+    left, last, glyphs, mapping = count_in(words, b"CHARS"), -1, [], bytearray()
+    while left:
+        last, on = bdf_glyph(lines, cell, last, mapping)
+        glyphs.append(on)
+        left -= 1
+    allow(counting(lines) == [b"ENDFONT"])
+    allow(is_over(lines))
+    cw, ch, _, foot = cell
+    atlas = bytearray((len(glyphs) + 15) // 16 * ch * 2 * cw)
+    for k, on in enumerate(glyphs):
+        for u, v in on:
+            column, row = k % 16 * cw + u, k // 16 * ch + v
+            atlas[row * 2 * cw + column // 8] |= 1 << 7 - column % 8
+    numbers = ((28, 4), (len(atlas), 4), (28 + len(atlas), 4), (len(mapping), 2), (0, 2), (16 * cw, 2), (cw, 1), (ch, 1), (0, 1),
+               (max(ch + foot - 1, 0), 1), (max(ch - 1, 0) // 2, 1), (1, 1), (ch + 1, 1), (1, 1), (0, 2))
+    return b"".join(n.to_bytes(size, "little") for n, size in numbers) + bytes(atlas) + bytes(mapping)
+
+
 # ---- Replies and refusals
 
 @lru_cache(4096)
@@ -399,6 +540,17 @@ def write_page(b, frame, output):
     file = page_file(b, frame)
     output[:len(file)] = file
     return 0, len(file)
+
+
+def read_bdf(file, output):
+    try:
+        font = bdf_font(bytes(file))
+    except Refused as refused:
+        return refused.args[0], 0
+    if len(font) > len(output):
+        return 17, 0
+    output[:len(font)] = font
+    return 0, len(font)
 
 
 def walk(line, offset):

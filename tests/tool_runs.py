@@ -38,10 +38,11 @@ def sheet_tool(*words):
 
 
 def copy_programs(folder):
-    """Copies station_page and station_items; where the latter is not built, the program of tests/host/items.c, which measures as it does."""
+    """Copies station_page, read_bdf and station_items; where the last is not built, the program of tests/host/items.c, which measures as it does."""
     folder.mkdir(parents=True, exist_ok=True)
     built = ROOT / "target/bin/station_items"
-    shutil.copy(ROOT / "target/bin/station_page", folder / "station_page")
+    for name in ("station_page", "read_bdf"):
+        shutil.copy(ROOT / "target/bin" / name, folder / name)
     shutil.copy(built if built.is_file() else sys.argv[2], folder / "station_items")
 
 

@@ -16,6 +16,7 @@ import zlib
 
 from tool_runs import ROOT, SAMPLES, Run, expect_error, programs_of, run_tests, same, sheet_program, sheet_tool
 
+import bdf_fonts
 import described
 import explained
 import gate
@@ -204,9 +205,10 @@ def test_view(folder):
                 raise AssertionError(f"{sheet.name}: the PNG at scale {scale} has other greys than the page")
 
 
-def test_picture(_):
-    if png_greys((ROOT / "docs/page.png").read_bytes()) != scaled((ROOT / "samples/hydrograph.pgm").read_bytes(), 2):
-        raise AssertionError("docs/page.png is not the page of samples/hydrograph.sheet at scale 2")
+def test_pictures(_):
+    for picture, sample in (("page", "hydrograph"), ("georgian", "georgian")):
+        if png_greys((ROOT / f"docs/{picture}.png").read_bytes()) != scaled((ROOT / f"samples/{sample}.pgm").read_bytes(), 2):
+            raise AssertionError(f"docs/{picture}.png is not the page of samples/{sample}.sheet at scale 2")
 
 
 # ---- errors
@@ -339,7 +341,7 @@ def test_refusals(_):
     named = [(int(n), name) for name, n in re.findall(r"^    STATION_REFUSED_(\w+) = (\d+),?$", header, re.M)]
     documented = [(int(n), name) for n, name in re.findall(r"^\| (\d+) \| `(\w+)` \|", table, re.M)]
     same("names of docs/REFUSALS.md", documented, named)
-    same("numbers", [n for n, _ in named], list(range(1, 19)))
+    same("numbers", [n for n, _ in named], list(range(1, 22)))
 
 
 # ---- the header's numbers
@@ -383,7 +385,7 @@ def main():
     if len(sys.argv) != 3:
         sys.exit("usage: python3 tests/tools.py CHECK ITEMS")
     signal.signal(signal.SIGINT, signal.default_int_handler)  # a shell has it ignored in what it runs beside itself
-    modules = (explained, sys.modules[__name__], described, wrong_inputs, guide, gate, must_fail)
+    modules = (explained, sys.modules[__name__], described, bdf_fonts, wrong_inputs, guide, gate, must_fail)
     return 1 if sum(run_tests(module) for module in modules) else 0
 
 

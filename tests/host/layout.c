@@ -199,6 +199,37 @@ static void try_page(void)
     same("station_write_page", "byte past the page", output[PAGE], 0xEE);
 }
 
+/* A BDF file of one glyph, two pixels in the upper row of a cell of 3 by 2, and its font: record, atlas and mapping. */
+static const char bdf[] = "STARTFONT 2.1\nFONT f\nSIZE 8 75 75\nFONTBOUNDINGBOX 3 2 0 -1\nCHARS 1\nSTARTCHAR A\nENCODING 65\n"
+                          "SWIDTH 500 0\nDWIDTH 3 0\nBBX 2 1 1 0\nBITMAP\nFF\nENDCHAR\nENDFONT\n";
+static const uint8_t bdf_font[] = {28, 0, 0, 0, 12, 0, 0, 0, 40, 0, 0, 0, 1,    0, 0, 0, 48, 0, 3, 2, 0,
+                                   0,  0, 1, 3, 1, 0, 0, 0x60, 0, 0, 0, 0, 0, 0, 0, 0, 0, 0,  0, 'A'};
+
+static station_number read_bdf(const char *text, size_t output_length)
+{
+    return station_read_bdf((const uint8_t *)text, strlen(text), output, output_length);
+}
+
+static void try_bdf(void)
+{
+    char changed[sizeof bdf];
+    memset(output, 0xEE, sizeof output);
+    number_is("station_read_bdf, short output", read_bdf(bdf, sizeof bdf_font - 1), STATION_REFUSED_OUTPUT_TOO_SHORT, 0);
+    number_is("station_read_bdf, no text", read_bdf("", sizeof output), STATION_REFUSED_BDF_LINE, 0);
+    strcpy(changed, bdf);
+    strstr(changed, "BBX 2")[4] = '3';
+    number_is("station_read_bdf, wide glyph", read_bdf(changed, sizeof output), STATION_REFUSED_BDF_LIMIT, 0);
+    strcpy(changed, bdf);
+    memcpy(strstr(changed, "65"), "-1", 2);
+    number_is("station_read_bdf, no character", read_bdf(changed, 0), STATION_REFUSED_BDF_ENCODING, 0);
+    for (size_t k = 0; k < sizeof output; k++) {
+        same("station_read_bdf, refused", "output", output[k], 0xEE);
+    }
+    number_is("station_read_bdf", read_bdf(bdf, sizeof bdf_font), 0, sizeof bdf_font);
+    same("station_read_bdf", "font", memcmp(output, bdf_font, sizeof bdf_font), 0);
+    same("station_read_bdf", "byte past the font", output[sizeof bdf_font], 0xEE);
+}
+
 /* From (20, 3) to (9, 17), so that the rectangle's numbers differ; then a longer text, and a style without text grey. */
 static void try_edits(int with_frame)
 {
@@ -320,6 +351,8 @@ static void try_empty_slices(uint8_t *none)
     box_is("no style", station_set_style(sheet, LENGTH, frame, PIXELS, 0, none, 0), STATION_REFUSED_STYLE, 0, 0, 0, 0);
     box_is("no style on the sheet", station_set_style_on_sheet(sheet, LENGTH, 0, none, 0), STATION_REFUSED_STYLE, 0, 0, 0, 0);
     step_is("no line", station_walk(none, 0, 0), 0, 1, 0, 0);
+    number_is("no BDF file", station_read_bdf(none, 0, output, sizeof output), STATION_REFUSED_BDF_LINE, 0);
+    number_is("no output for a font", station_read_bdf((const uint8_t *)bdf, sizeof bdf - 1, none, 0), STATION_REFUSED_OUTPUT_TOO_SHORT, 0);
     box_is("empty text", station_set_text(sheet, LENGTH, frame, PIXELS, 1, none, 0), 0, 30, 19, 2, 4);
     same("empty text", "length", stored(ITEM_RECORD_1 + STATION_ITEM_AT_TEXT_LENGTH), 0);
     make_sheet();
@@ -335,6 +368,7 @@ int main(void)
     try_walker_loop();
     try_drawing();
     try_page();
+    try_bdf();
     try_edits(1);
     try_edits(0);
     try_check();

@@ -1,6 +1,7 @@
 /*
  * Measures the stack that each call needs: the call runs on a stack of its own that is filled with a pattern, and the lowest byte that it
- * changed tells how deep it went. Standard input has sheets as for check.c; each is asked every call, with right and with wrong arguments.
+ * changed tells how deep it went. Standard input has sheets as for check.c, and BDF files; each is asked every call, with right and with wrong
+ * arguments.
  * Prints the most bytes for each call. The exit status is 1 if one went deeper than include/station.h promises.
  */
 #include "station.h"
@@ -9,7 +10,7 @@
 #include <string.h>
 #include <ucontext.h>
 
-enum { PROMISED = 4096, STACK = 65536, PAINTED = 16384, PATTERN = 0xA5, CALLS = 15 };
+enum { PROMISED = 4096, STACK = 65536, PAINTED = 16384, PATTERN = 0xA5, CALLS = 16 };
 
 static uint8_t sheet[2 * STATION_MOST_SHEET], copy[2 * STATION_MOST_SHEET];
 static uint8_t frame[STATION_MOST_FRAME], output[STATION_MOST_PAGE];
@@ -48,6 +49,7 @@ static void call_text_on_sheet(void) { station_set_text_on_sheet(copy, given.she
 static void call_place_on_sheet(void) { station_set_place_on_sheet(copy, given.sheet_length, given.number, given.x, given.y); }
 static void call_style_on_sheet(void) { station_set_style_on_sheet(copy, given.sheet_length, given.number, given.data, given.data_length); }
 static void call_walk(void) { station_walk(copy, given.sheet_length, given.offset); }
+static void call_read_bdf(void) { station_read_bdf(copy, given.sheet_length, output, given.output_length); }
 
 static const struct {
     const char *name;
@@ -68,6 +70,7 @@ static const struct {
     {"station_set_place_on_sheet", call_place_on_sheet},
     {"station_set_style_on_sheet", call_style_on_sheet},
     {"station_walk", call_walk},
+    {"station_read_bdf", call_read_bdf},
 };
 static size_t deepest[CALLS];
 static unsigned long runs;
