@@ -6,9 +6,10 @@ from functools import lru_cache
 from pathlib import Path
 
 from . import Problem
+from .bdf import read_bdf
 from .bitmap import bits, parse_font
 from .explain import explain, header_refusals
-from .files import input_name
+from .files import MOST_TEXT, input_name
 from .layout import (ALIGNMENTS, BASELINES, EDITION, FONT_FORM, FONT_SIZE, HEADER_FORM, HEADER_SIZE, HEIGHT_KINDS, ITEM_FORM, ITEM_SIZE,
                      MOST_ATLAS_WIDTH, MOST_CELL, MOST_FONTS, MOST_HEIGHT, MOST_ITEMS, MOST_SIDE, MOST_SLOT, Header, code_point, font_of,
                      header_of, spelled)
@@ -20,6 +21,7 @@ UNUSED = {**{key: f"unused_{key}" for key in GREYS}, **{key: f"unused_{key}_grey
 STYLE_KEYS = {"font", *GREYS, *DECORATIONS, *UNUSED.values(), "alignment", "baseline", "line_height"}
 ITEM_KEYS = STYLE_KEYS | {"name", "style", "x", "y", "text", "lines", "slot", "missing_glyphs"}
 BITMAP_KEYS = {"name", "file", "bitmap", "columns", "mapping", "replacement"}
+BDF_KEYS = {"name", "file", "replacement"}
 ATLAS_KEYS = {"name", "cell", "spacing", "baseline", "strikethrough", "underline", "replacement", "mapping", "atlas_width", "atlas", "atlas_tail"}
 WIDEST_FIELD = 65_535
 FIRST_PLACE, LAST_PLACE = -32_768, 32_767
@@ -145,7 +147,7 @@ def same_names(items):
 # ---- fonts
 
 def read_font(table, files, folder, warnings):
-    """A font: bitmap text in a file or in the description, or an atlas with its mapping."""
+    """A font: bitmap text in a file or in the description, a BDF file, or an atlas with its mapping."""
     if "atlas_width" in table:
         return read_atlas_font(Table(table.entries, table.name, ATLAS_KEYS, table.lines, table.path))
     Table(table.entries, table.name, BITMAP_KEYS, table.lines, table.path)
@@ -155,6 +157,8 @@ def read_font(table, files, folder, warnings):
         font = parse_font(table.string("bitmap"), f"{table.where('bitmap')}: bitmap")
     else:
         path = folder / table.string("file")
+        if path.suffix.lower() == ".bdf":
+            return read_bdf_font(Table(table.entries, table.name, BDF_KEYS, table.lines, table.path), files, path)
         try:
             text = files.read_text(path)
         except Problem as problem:
@@ -174,6 +178,19 @@ def read_font(table, files, folder, warnings):
     replacement = table.whole("replacement", replacement, 0, WIDEST_FIELD)
     mapping = table.string("mapping").encode("utf-8") if "mapping" in table else font.mapping()
     return finished_font(table, FontPart(table.string("name", str(table.path[1])), atlas, mapping, replacement, width, numbers, table))
+
+
+def read_bdf_font(table, files, path):
+    """A font that read_bdf makes of a BDF file; its replacement index is 0 if none is given."""
+    try:
+        data = files.read(path, MOST_TEXT)
+    except Problem as problem:
+        raise Problem(f"{table.where('file')}: {problem}", problem.status) from None
+    if len(data) > MOST_TEXT:
+        raise Problem(f"{path}: longer than {MOST_TEXT} bytes, which is no font for a sheet")
+    record, atlas, mapping = read_bdf(data, str(path))
+    replacement = table.number("replacement", 0, WIDEST_FIELD, record.replacement)
+    return FontPart(table.string("name", str(table.path[1])), atlas, mapping, replacement, record.atlas_width, tuple(record)[6:14], table)
 
 
 def read_atlas_font(table):
