@@ -413,9 +413,9 @@ def limits_of_bdf():
     return bad + differences(origin, integer(re.search(r"offset beyond ±([\d,]+) is", SECTIONS[BDF])[1]), "rule of the offsets: ")
 
 
-@test("the keywords are those of crates/bdf/specs/Keywords.antt")
+@test("the keywords are those of crates/bdf_lines/specs/Keywords.antt")
 def keywords():
-    letters = re.findall(r"^(\w+) = (\w ∷ .*)\[\]$", read("crates/bdf/specs/Keywords.antt"), re.M)
+    letters = re.findall(r"^(\w+) = (\w ∷ .*)\[\]$", read("crates/bdf_lines/specs/Keywords.antt"), re.M)
     defined = {word.replace(" ∷ ", "") for _, word in letters}
     listed = [row[0] for which in (0, 1) for row in table(BDF, ["keyword", "behind it", "gives"], which)]
     return differences({*listed, "ENDPROPERTIES", "COMMENT"}, defined) + differences(len(listed), len(set(listed)), "once each: ")

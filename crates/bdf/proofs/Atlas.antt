@@ -15,7 +15,8 @@ use borrow.Author.Tests.{lt-ltb, le-ltb, le-leb, lt-leb, eq-eqb, ne-eqb}
 use Rattle.bdf.specs.declared.reader.BoundingBox.{BoundingBox}
 use Rattle.bdf.specs.Font.{Glyph, BdfFont, inkLeft, inkTop, isInk, glyphAt, glyphCount, isSet, bit, counted, stride, atlasSize, atlasByte, atlasOf}
 use Rattle.bdf.specs.Writing.{putRow, putRows, putGlyphs, GoodGlyph, GoodGlyphs}
-use Rattle.bdf.proofs.Bits.{lt-or-le, lineBit, line-in, line-past, line-before, line-none, line-moved, byte-of-bits}
+use Rattle.bdf_lines.proofs.Numbers.{lt-or-le}
+use Rattle.bdf.proofs.Bits.{lineBit, line-in, line-past, line-before, line-none, line-moved, byte-of-bits}
 use Rattle.bdf.proofs.Rows.{lineRow, lineEnd, length-putRow, bytes-putRow, row-bit, row-other, BitmapLine, BitmapLines, line-room, first-line, next-lines, all-lines, rows-keep, glyphs-keep}
 
 same-or-not : (a b : ℕ) → (a ≡ b) ⊎ ((a < b) ⊎ (b < a))

@@ -1,12 +1,11 @@
 -- Laws of the bits of a row: where the bits of a bitmap line stand in its bytes, and a byte by its eight bits. Assumes nothing.
 use Prim.Native.Nat.{ℕ, zero, suc, _+_, _-_, _*_, _/_, _%_, _^_, _≤_, _<_}
 use native.Mathlib.Nat.{add-zero, add-suc, suc-add, zero-add, not-suc-le-zero, mul-assoc, mul-mod-left, zero-div, div-eq-of-lt, lt-of-lt-of-le, div-one, sub-self, div-add-mod'}
-use native.Mathlib.Decide.{decLt}
 use native.Mathlib.Omega.{arith}
 use mathlib.Core.Path.{_≡_, refl, sym, ap, ap₂, _∙_}
 use mathlib.Core.Bool.{Bool, true, false, cond}
 use mathlib.Core.List.{List, [], _∷_}
-use mathlib.Core.Logic.{_⊎_, inl, inr, ⊎-elim}
+use mathlib.Core.Logic.{_⊎_, ⊎-elim}
 use lib.Dec.{ltb, leb}
 use lib.Arith.{digits-div, digits-mod}
 use native.Mathlib.Numerals.{add-one, one-add}
@@ -16,15 +15,9 @@ use lib.ListN.{length, getD, set}
 use borrow.Author.Tests.{lt-ltb, le-ltb, le-leb, lt-leb}
 use Rattle.geometry.specs.Layer.{mapIndexed}
 use Rattle.geometry.proofs.Rows.{mapFirst, FirstPainted, row-start, row-step, row-end}
+use Rattle.bdf_lines.proofs.Numbers.{lt-or-le}
 use Rattle.bdf.specs.Font.{bit, byteOf}
 use Rattle.bdf.specs.Writing.{bitsIn, withBits, BitsFit}
-
-pub lt-or-le : (a b : ℕ) → (a < b) ⊎ (b ≤ a)
-lt-or-le a b = go (decLt a b)
-  where
-    go : Dec (a < b) → (a < b) ⊎ (b ≤ a)
-    go (yes h) = inl h
-    go (no h) = inr (omega arith)
 
 -- ---- bits of numbers
 

@@ -1,7 +1,3 @@
-pub mod Positions
-pub mod Numbers
-pub mod Tables
-pub mod NumberLines
 pub mod Steps
 pub mod Spellings
 pub mod Stores
@@ -21,5 +17,3 @@ pub mod Passes
 pub mod Moves
 pub mod Fonts
 pub mod Promises
-pub mod Stands
-pub mod Forms

@@ -2,118 +2,40 @@
 use Prim.Native.Nat.{ℕ, _+_, _-_, _≤_, _<_}
 use native.Mathlib.Omega.{arith}
 use mathlib.Core.Path.{_≡_, refl, sym, ap, _∙_}
-use mathlib.Core.Bool.{Bool, true, false, cond, true≢false, and-eq-true-iff}
+use mathlib.Core.Bool.{Bool, true, false, true≢false}
 use mathlib.Core.List.{List, [], _∷_}
 use lib.ListN.{length, drop, getD, length-drop}
 use lib.Seq.{getD-drop}
 use lib.Dec.{eqb}
-use borrow.Author.Tests.{eqb-true, eq-eqb, ne-eqb, le-ltb}
+use borrow.Author.Tests.{eq-eqb, ne-eqb, le-ltb}
 use Rattle.characters.specs.Lines.{lineLength, lineFrom, withoutReturn}
-use Rattle.bdf.specs.declared.values.Number.{Number}
-use Rattle.bdf.specs.declared.values.Read.{Read}
-use Rattle.bdf.specs.declared.values.Read.the-variants as read
-use Rattle.bdf.specs.declared.values.ReadAt.{ReadAt}
-use Rattle.bdf.specs.declared.values.ReadAt.the-variants as found
-use Rattle.bdf.specs.declared.values.Four.{Four}
-use Rattle.bdf.specs.declared.values.Four.the-variants as four
-use Rattle.bdf.specs.declared.words.Rest.{Rest}
-use Rattle.bdf.specs.declared.words.Rest.the-variants as rest
+use Rattle.bdf_lines.specs.declared.values.Number.{Number}
+use Rattle.bdf_lines.specs.declared.values.Read.the-variants as read
+use Rattle.bdf_lines.specs.declared.values.ReadAt.{ReadAt}
+use Rattle.bdf_lines.specs.declared.values.ReadAt.the-variants as found
+use Rattle.bdf_lines.specs.declared.values.Four.the-variants as four
+use Rattle.bdf_lines.specs.declared.words.Rest.{Rest}
+use Rattle.bdf_lines.specs.declared.words.Rest.the-variants as rest
+use Rattle.bdf_lines.specs.Forms.{lineAt, LineTo, UsualLine, UsualEncoding, UsualBbx}
 use Rattle.bdf.specs.declared.reader.Expected.{Expected}
 use Rattle.bdf.specs.declared.reader.Expected.the-variants.{Glyph, Encoding, Swidth, Dwidth, Bbx, Attributes, Rows}
 use Rattle.bdf.specs.declared.reader.Reader.{Reader}
 use Rattle.bdf.specs.declared.reader.Answer.{Answer}
 use Rattle.bdf.specs.declared.reader.Answer.the-variants.{Refused, Passed}
-use Rattle.bdf.specs.declared.usual.FourAt.{FourAt}
-use Rattle.bdf.specs.declared.usual.FourAt.the-variants as fourAt
+use Rattle.bdf_lines.specs.declared.forms.FourAt.{FourAt}
+use Rattle.bdf_lines.specs.declared.forms.FourAt.the-variants as fourAt
 use Rattle.bdf.specs.declared.usual.AnswerAt.{AnswerAt}
 use Rattle.bdf.specs.declared.usual.AnswerAt.the-variants as answerAt
-use Rattle.bdf.specs.Words.{words, same, isAlone, isNamed, isComment, areNumbers, hasNumbers, fourNumbers, fourOf, encodingOf, isHexPair}
-use Rattle.bdf.specs.Keywords as word
-use Rattle.bdf.specs.Reader.{start, order, expecting, leaving, encodingLine, bbxLine, lineStep, inBitmap, step}
-use Rattle.bdf.specs.Walk.{lineAt, Carries}
-use Rattle.bdf.specs.Usual.{LineTo, UsualLine, UsualEncoding, UsualBbx, movedBy, movedOn, UsualMove, UsualAnswer}
+use Rattle.bdf_lines.specs.Words.{words, same, isAlone, isNamed, isComment, hasNumbers, fourOf, encodingOf}
+use Rattle.bdf_lines.specs.Keywords as word
+use Rattle.bdf_lines.proofs.FirstWords.{begins, no-comment, named-begins, alone-begins, numbers-begin, four-begins, encoding-begins, alone-no-pair}
+use Rattle.bdf.specs.Reader.{order, expecting, leaving, encodingLine, bbxLine, lineStep, inBitmap, step}
+use Rattle.bdf.specs.Walk.{Carries}
+use Rattle.bdf.specs.Usual.{movedBy, movedOn, UsualMove, UsualAnswer}
 use Rattle.bdf.proofs.Steps.{step-line, expected-is}
 use Rattle.bdf.proofs.Walks.{carries-line}
 use Rattle.bdf.proofs.Strips.{put-passed}
 use Rattle.bdf.proofs.Passes.{Passing, passing-on}
-
--- ---- the first word of a line
-
-begins : List ℕ → List (List ℕ) → Bool
-begins k [] = false
-begins k (w ∷ ws) = same w k
-
-same-is : (w k : List ℕ) → same w k ≡ true → w ≡ k
-unfolding same
-same-is [] [] e = refl
-same-is [] (b ∷ k) e = absurd (true≢false (sym e))
-same-is (a ∷ w) [] e = absurd (true≢false (sym e))
-same-is (a ∷ w) (b ∷ k) e =
-    let c = and-eq-true-iff (eqb a b) (same w k) .0 e in
-    rw (eqb-true a b (c .0), same-is w k (c .1))
-
--- a line that begins with another keyword is no comment
-no-comment : (k : List ℕ) (ws : List (List ℕ)) → same k word.comment ≡ false → begins k ws ≡ true → isComment word.comment ws ≡ false
-unfolding begins isComment
-no-comment k [] o e = absurd (true≢false (sym e))
-no-comment k (w ∷ ws) o e = rw (same-is w k e) o
-
-isRead : Read → Bool
-isRead (read.Value n) = true
-isRead read.Wrong = false
-
-isFour : Four → Bool
-isFour (four.Numbers a b c d) = true
-isFour four.Wrong = false
-
-module _ (k : List ℕ) where
-  named-begins : (ws : List (List ℕ)) → isNamed k ws ≡ true → begins k ws ≡ true
-  unfolding isNamed begins
-  named-begins [] e = e
-  named-begins (w ∷ []) e = absurd (true≢false (sym e))
-  named-begins (w ∷ v ∷ ws) e = e
-
-  alone-begins : (ws : List (List ℕ)) → isAlone k ws ≡ true → begins k ws ≡ true
-  unfolding isAlone begins
-  alone-begins [] e = e
-  alone-begins (w ∷ []) e = e
-  alone-begins (w ∷ v ∷ ws) e = absurd (true≢false (sym e))
-
-  numbers-begin : (n : ℕ) (ws : List (List ℕ)) → hasNumbers k n ws ≡ true → begins k ws ≡ true
-  unfolding hasNumbers begins
-  numbers-begin n [] e = e
-  numbers-begin n (w ∷ ws) e = and-eq-true-iff (same w k) (areNumbers n ws) .0 e .0
-
-  four-begins : (a b c d : Number) (ws : List (List ℕ)) → fourOf k ws ≡ four.Numbers a b c d → begins k ws ≡ true
-  unfolding fourOf begins isFour
-  four-begins a b c d [] e = absurd (true≢false (sym (ap isFour e)))
-  four-begins a b c d (w ∷ ws) e = go (same w k) e
-    where
-      go : (t : Bool) → cond t (fourNumbers ws) four.Wrong ≡ four.Numbers a b c d → t ≡ true
-      go true q = refl
-      go false q = absurd (true≢false (sym (ap isFour q)))
-
-  encoding-begins : (n : Number) (ws : List (List ℕ)) → encodingOf k ws ≡ read.Value n → begins k ws ≡ true
-  unfolding encodingOf begins isRead
-  encoding-begins n ws e = go ws e
-    where
-      chosen : (t : Bool) (x : Read) → cond t x read.Wrong ≡ read.Value n → t ≡ true
-      chosen true x q = refl
-      chosen false x q = absurd (true≢false (sym (ap isRead q)))
-
-      go : (ws : List (List ℕ)) → encodingOf k ws ≡ read.Value n → begins k ws ≡ true
-      go [] q = absurd (true≢false (sym (ap isRead q)))
-      go (w ∷ []) q = absurd (true≢false (sym (ap isRead q)))
-      go (w ∷ v ∷ []) q = chosen (same w k) _ q
-      go (w ∷ v ∷ u ∷ []) q = chosen (same w k) _ q
-      go (w ∷ v ∷ u ∷ x ∷ ws) q = absurd (true≢false (sym (ap isRead q)))
-
--- one word is no pair
-alone-no-pair : (k h : List ℕ) (ws : List (List ℕ)) → isAlone k ws ≡ true → isHexPair h ws ≡ false
-unfolding isAlone isHexPair
-alone-no-pair k h [] e = refl
-alone-no-pair k h (w ∷ []) e = refl
-alone-no-pair k h (w ∷ v ∷ ws) e = absurd (true≢false (sym e))
 
 -- ---- what such a line does
 

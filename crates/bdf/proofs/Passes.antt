@@ -7,6 +7,7 @@ use mathlib.Core.Bool.{Bool, true}
 use mathlib.Core.List.{List, [], _∷_}
 use lib.ListN.{length, drop}
 use Rattle.characters.specs.Lines.{lineLength}
+use Rattle.bdf_lines.specs.Forms.{lineAt}
 use Rattle.bdf.specs.declared.reader.Reader.{Reader}
 use Rattle.bdf.specs.declared.reader.Answer.{Answer}
 use Rattle.bdf.specs.declared.file.Turned.{Turned}
@@ -14,7 +15,7 @@ use Rattle.bdf.specs.declared.file.Measured.{Measured}
 use Rattle.bdf.specs.declared.file.Measured.the-variants.{Refused}
 use Rattle.bdf.specs.Reader.{start, step, refusalOf, after, firstRefusal, lastReader}
 use Rattle.bdf.specs.Within.{Within}
-use Rattle.bdf.specs.Walk.{linesFrom, lineAt, measured, putIf, putLinesIf, Room, Carries, LineOver, AnswerFits}
+use Rattle.bdf.specs.Walk.{linesFrom, measured, putIf, putLinesIf, Room, Carries, LineOver, AnswerFits}
 use Rattle.bdf.proofs.Invariant.{within-start}
 use Rattle.bdf.proofs.Walks.{lines-from-more, lines-from-last, carries-none, carries-on, carries-line, measured-end, put-end, measured-refusal, put-kept, room-kept}
 use Rattle.bdf.proofs.Strips.{answer-fits}

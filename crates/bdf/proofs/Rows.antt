@@ -14,7 +14,8 @@ use Rattle.geometry.proofs.Layers.{length-mapIndexed, mapIndexed-at}
 use Rattle.bdf.specs.declared.reader.BoundingBox.{BoundingBox}
 use Rattle.bdf.specs.Font.{Glyph, inkLeft, inkTop, glyphCount, stride, atlasSize}
 use Rattle.bdf.specs.Writing.{withBits, putRow, putRows, putGlyphs, InCell, GoodGlyph, GoodGlyphs}
-use Rattle.bdf.proofs.Bits.{lt-or-le, lineBit, withBits-bit, bitsIn-small}
+use Rattle.bdf_lines.proofs.Numbers.{lt-or-le}
+use Rattle.bdf.proofs.Bits.{lineBit, withBits-bit, bitsIn-small}
 
 -- ---- a part of a list mapped and put back
 

@@ -11,15 +11,15 @@ use mir.Val.{Fits}
 use borrow.Author.Tests.{not-true, not-false, leb-true, leb-false, lt-ltb, le-ltb, le-leb, lt-leb, eq-eqb, ne-eqb}
 use Rattle.characters.specs.Utf8.{isSurrogate}
 use Rattle.characters.proofs.Refusals.{all-true}
-use Rattle.bdf.specs.declared.values.Number.{Number}
-use Rattle.bdf.specs.declared.values.Read.{Read}
-use Rattle.bdf.specs.declared.values.Read.the-variants as read
-use Rattle.bdf.specs.declared.values.Count.{Count}
-use Rattle.bdf.specs.declared.values.Count.the-variants as count
-use Rattle.bdf.specs.declared.values.Four.{Four}
-use Rattle.bdf.specs.declared.values.Four.the-variants as four
-use Rattle.bdf.specs.declared.values.Row.{Row}
-use Rattle.bdf.specs.declared.values.Row.the-variants as row
+use Rattle.bdf_lines.specs.declared.values.Number.{Number}
+use Rattle.bdf_lines.specs.declared.values.Read.{Read}
+use Rattle.bdf_lines.specs.declared.values.Read.the-variants as read
+use Rattle.bdf_lines.specs.declared.values.Count.{Count}
+use Rattle.bdf_lines.specs.declared.values.Count.the-variants as count
+use Rattle.bdf_lines.specs.declared.values.Four.{Four}
+use Rattle.bdf_lines.specs.declared.values.Four.the-variants as four
+use Rattle.bdf_lines.specs.declared.values.Row.{Row}
+use Rattle.bdf_lines.specs.declared.values.Row.the-variants as row
 use Rattle.bdf.specs.declared.reader.BoundingBox.{BoundingBox}
 use Rattle.bdf.specs.declared.reader.Expected.{Expected}
 use Rattle.bdf.specs.declared.reader.Expected.the-variants.{StartFont, Font, Size, FontBoundingBox, Properties, Property, Chars, Glyph, Encoding, Swidth, Dwidth, Bbx, Attributes, Bitmap, Rows, Nothing}
@@ -27,8 +27,8 @@ use Rattle.bdf.specs.declared.reader.Reader.{Reader}
 use Rattle.bdf.specs.declared.reader.Answer.{Answer}
 use Rattle.bdf.specs.declared.reader.Answer.the-variants.{Refused, Passed, Boxed, Encoded, Drawn}
 use Rattle.bdf.specs.Reader.{origin, isOffset, place, box, baseline, cellTests, isCell, boxTests, isInCell, isCharacter, utf8, spelling, expecting, leaving, moved, counted, withCell, cellLine, propertiesLine, withEncoding, spellingLine, encodingLine, withBbx, bbxLine, withRow, rowLine, lineStep, order, inBitmap, step}
-use Rattle.bdf.specs.Words.{words, isAlone, isNamed, isComment, isHexPair, rowOf}
-use Rattle.bdf.specs.Keywords as word
+use Rattle.bdf_lines.specs.Words.{words, isAlone, isNamed, isComment, isHexPair, rowOf}
+use Rattle.bdf_lines.specs.Keywords as word
 use Rattle.bdf.specs.Writing.{InCell, GoodCell}
 use Rattle.bdf.specs.Within.{IsBox, Within}
 

@@ -1,12 +1,12 @@
 -- What a line says lies in the atlas and the mapping that the last line has measured. Assumes nothing.
-use Prim.Native.Nat.{ℕ, suc, _+_, _-_, _*_, _/_, _%_, _^_, _≤_, _<_}
+use Prim.Native.Nat.{ℕ, _+_, _-_, _*_, _/_, _%_, _^_, _≤_, _<_}
 use native.Mathlib.Nat.{mul-le-mul-right, add-assoc}
 use native.Mathlib.Omega.{arith}
 use mathlib.Core.Path.{_≡_, refl, sym, ap, _∙_}
-use mathlib.Core.Bool.{Bool, true, false, not, cond, _&&_, and-eq-true-iff, true≢false}
+use mathlib.Core.Bool.{Bool, true, false, not, _&&_, and-eq-true-iff, true≢false}
 use borrow.Rule.Slice.PartMut.{putMid}
 use Rattle.geometry.specs.Layer.{mapIndexed}
-use mathlib.Core.List.{List, [], _∷_}
+use mathlib.Core.List.{List, _∷_}
 use lib.ListN.{length, take, drop, length-drop}
 use lib.Seq.{length-take-le}
 use lib.Dec.{ltb, leb, eqb}
@@ -14,29 +14,28 @@ use mir.Syntax.{w32, w64}
 use mir.Val.{Fits}
 use borrow.Author.Tests.{lt-ltb, eqb-true, leb-true, not-true, not-false}
 use Rattle.characters.specs.Utf8.{isSurrogate}
+use Rattle.bdf_lines.specs.Forms.{lineAt, RowFound}
+use Rattle.bdf_lines.proofs.BitmapLines.{bits-small}
 use Rattle.bdf.specs.declared.reader.BoundingBox.{BoundingBox}
-use Rattle.bdf.specs.declared.reader.Expected.the-variants.{Rows, Properties, Swidth}
+use Rattle.bdf.specs.declared.reader.Expected.the-variants.{Rows}
 use Rattle.bdf.specs.declared.reader.Answer.{Answer}
 use Rattle.bdf.specs.declared.reader.Answer.the-variants as answer
 use Rattle.bdf.specs.declared.reader.Reader.{Reader}
 use Rattle.bdf.specs.declared.file.Strip.{Strip}
-use Rattle.bdf.specs.declared.file.RowAt.{RowAt}
-use Rattle.bdf.specs.declared.file.RowAt.the-variants as found
+use Rattle.bdf_lines.specs.declared.forms.RowAt.{RowAt}
+use Rattle.bdf_lines.specs.declared.forms.RowAt.the-variants as found
 use Rattle.bdf.specs.declared.reader.Expected.{Expected}
-use Rattle.bdf.specs.declared.values.Row.{Row}
-use Rattle.bdf.specs.declared.values.Row.the-variants as row
-use Rattle.bdf.specs.Words.{isRow, rowBits, rowOf}
 use Rattle.bdf.specs.Reader.{spelling, order, inBitmap, step, after, lastReader, withEncoding, withRow}
 use Rattle.bdf.specs.Font.{inkLeft, inkTop, stride, atlasSize}
 use Rattle.bdf.specs.Writing.{withBits, BitsFit, putRow, put}
 use Rattle.bdf.specs.Within.{Within}
-use Rattle.bdf.specs.Walk.{linesFrom, lineAt, putIf, Room, Carries, rowsRead, RowFound, stripOf, putStrip, putStripIf, StripFits, putSpellingIf, SpellingFits, AnswerFits}
+use Rattle.bdf.specs.Walk.{linesFrom, putIf, Room, Carries, rowsRead, stripOf, putStrip, putStripIf, StripFits, putSpellingIf, SpellingFits, AnswerFits}
 use Rattle.bdf.proofs.Steps.{spelling-short}
 use Rattle.bdf.proofs.Invariant.{within-step}
 use Rattle.bdf.proofs.Gathered.{gathered, glyphs-counted, mapping-counted}
 use Rattle.bdf.proofs.Rows.{lineRow, line-room}
-use Rattle.bdf.proofs.Walks.{carries-none, carries-line, room-kept, rows-expected, row-apart, row-step}
-use Rattle.bdf.proofs.Turns.{row-bits, Turn, refused, passed, celled, encoded, boxed, drawn, turn}
+use Rattle.bdf.proofs.Walks.{carries-none, carries-line, room-kept, rows-expected, row-step}
+use Rattle.bdf.proofs.Turns.{Turn, refused, passed, celled, encoded, boxed, drawn, turn}
 
 -- a strip's line is the bitmap line of its glyph
 pub strip-row : (r : Reader) (i bits : ℕ) (out : List ℕ) → putStrip (stripOf r) i bits out ≡ putRow (r .cell) (r .glyphs - 1) (r .bbx) i bits out
@@ -275,23 +274,6 @@ module _ (w : Bool) (from to v : ℕ) (out : List ℕ) where
         go false e = absurd (true≢false (sym e))
 
 -- ---- bitmap lines one after another
-
-row-value : Row → ℕ
-row-value (row.Bits v) = v
-row-value row.Wrong = 0
-
-row-injective : (v u : ℕ) → row.Bits v ≡ row.Bits u → v ≡ u
-unfolding row-value
-row-injective v u e = ap row-value e
-
--- the bits of a bitmap line are small
-bits-small : (width bits : ℕ) (l : List ℕ) → rowOf width l ≡ row.Bits bits → bits < 2 ^ width
-unfolding rowOf
-bits-small width bits l e = go (isRow width l) refl e
-  where
-    go : (t : Bool) → isRow width l ≡ t → cond t (row.Bits (rowBits width l)) row.Wrong ≡ row.Bits bits → bits < 2 ^ width
-    go true i q = rw (← row-injective (rowBits width l) bits q) (row-bits width l i)
-    go false i q = absurd (row-apart bits (sym q))
 
 module _ (file : List ℕ) (w : Bool) (size : ℕ) (r : Reader) (from : ℕ) (out : List ℕ) where
   module _ (b : inBitmap r ≡ true) where

@@ -1,68 +1,30 @@
 -- What a line of a font file can do to its reader: the few forms of the answer, with what the line's tests give. Assumes nothing.
-use Prim.Native.Nat.{ℕ, suc, _+_, _-_, _*_, _/_, _^_, _≤_, _<_}
-use native.Mathlib.Nat.{mul-le-mul-right}
+use Prim.Native.Nat.{ℕ, _+_, _-_, _^_, _≤_, _<_}
 use native.Mathlib.Omega.{arith}
-use mathlib.Core.Path.{_≡_, refl, ap, _∙_}
-use mathlib.Core.Bool.{Bool, true, false, not, cond, _&&_, _||_, false≢true, and-false, and-eq-true-iff}
-use mathlib.Core.List.{List, [], _∷_}
+use mathlib.Core.Path.{_≡_, refl}
+use mathlib.Core.Bool.{Bool, true, false, not, cond, _&&_}
+use mathlib.Core.List.{List}
 use lib.ListN.{length}
 use lib.Dec.{ltb, leb, eqb}
-use lib.Pow.{pow-add, shr-lt}
-use borrow.Author.Tests.{leb-true, ltb-true, eqb-true}
+use borrow.Author.Tests.{leb-true, ltb-true}
 use Rattle.characters.specs.Utf8.{isSurrogate}
-use Rattle.bdf.specs.declared.values.Number.{Number}
-use Rattle.bdf.specs.declared.values.Read.{Read}
-use Rattle.bdf.specs.declared.values.Read.the-variants as read
-use Rattle.bdf.specs.declared.values.Count.{Count}
-use Rattle.bdf.specs.declared.values.Count.the-variants as count
-use Rattle.bdf.specs.declared.values.Four.{Four}
-use Rattle.bdf.specs.declared.values.Four.the-variants as four
-use Rattle.bdf.specs.declared.values.Row.the-variants as row
+use Rattle.bdf_lines.specs.declared.values.Number.{Number}
+use Rattle.bdf_lines.specs.declared.values.Read.{Read}
+use Rattle.bdf_lines.specs.declared.values.Read.the-variants as read
+use Rattle.bdf_lines.specs.declared.values.Count.{Count}
+use Rattle.bdf_lines.specs.declared.values.Count.the-variants as count
+use Rattle.bdf_lines.specs.declared.values.Four.{Four}
+use Rattle.bdf_lines.specs.declared.values.Four.the-variants as four
+use Rattle.bdf_lines.specs.declared.values.Row.the-variants as row
 use Rattle.bdf.specs.declared.reader.Expected.{Expected}
 use Rattle.bdf.specs.declared.reader.Expected.the-variants.{StartFont, Font, Size, FontBoundingBox, Properties, Property, Chars, Glyph, Encoding, Swidth, Dwidth, Bbx, Attributes, Bitmap, Rows, Nothing}
 use Rattle.bdf.specs.declared.reader.Reader.{Reader}
 use Rattle.bdf.specs.declared.reader.Answer.{Answer}
 use Rattle.bdf.specs.declared.reader.Answer.the-variants.{Refused, Passed, Boxed, Encoded, Drawn}
-use Rattle.bdf.specs.Words.{words, isComment, isDigit, isHex, hexValue, areHex, hexFrom, isRow, rowBits, rowOf, isAlone, isNamed, isPair, hasNumbers, countOf, fourOf, encodingOf, isHexPair}
-use Rattle.bdf.specs.Keywords as word
+use Rattle.bdf_lines.specs.Words.{words, isComment, isRow, rowBits, rowOf, isAlone, isNamed, isPair, hasNumbers, countOf, fourOf, encodingOf, isHexPair}
+use Rattle.bdf_lines.specs.Keywords as word
+use Rattle.bdf_lines.proofs.BitmapLines.{row-bits}
 use Rattle.bdf.specs.Reader.{box, isCell, isInCell, isCharacter, spelling, leaving, moved, counted, withCell, cellLine, propertiesLine, withEncoding, spellingLine, encodingLine, withBbx, bbxLine, withRow, rowLine, lineStep, order, inBitmap, step}
-
--- ---- bitmap lines
-
--- the value of a hexadecimal digit
-hex-small : (b : ℕ) → isHex b ≡ true → hexValue b < 16
-unfolding isHex isDigit hexValue
-hex-small b e = go (leb b 0x39) (leb b 0x46) (leb b 0x66) (leb 0x30 b) (leb 0x41 b) (leb 0x61 b) refl refl refl e
-  where
-    go : (p q s x y z : Bool) → leb b 0x39 ≡ p → leb b 0x46 ≡ q → leb b 0x66 ≡ s → (x && p || (y && q || z && s)) ≡ true
-        → cond p (b - 0x30) (cond q (b - 0x37) (b - 0x57)) < 16
-    go true q s x y z f g h e = omega (arith, leb-true b 0x39 f)
-    go false true s x y z f g h e = omega (arith, leb-true b 0x46 g)
-    go false false true x y z f g h e = omega (arith, leb-true b 0x66 h)
-    go false false false x y z f g h e = absurd (false≢true (simp and-false at e))
-
--- n hexadecimal digits make a number of 4 × n bits
-hex-bits : (v : ℕ) (s : List ℕ) → areHex s ≡ true → hexFrom v s < (v + 1) * 2 ^ (4 * length s)
-unfolding areHex hexFrom
-hex-bits v [] e = omega arith
-hex-bits v (b ∷ s) e =
-    let h = and-eq-true-iff (isHex b) (areHex s) .0 e in
-    let i = hex-bits (v * 16 + hexValue b) s (h .1) in
-    let d = hex-small b (h .0) in
-    let p : 2 ^ (4 * suc (length s)) ≡ 16 * 2 ^ (4 * length s) = ap (λ (n : ℕ). 2 ^ n) (omega arith) ∙ pow-add 2 4 (4 * length s) in
-    let m : (v * 16 + hexValue b + 1) * 2 ^ (4 * length s) ≤ (v + 1) * 16 * 2 ^ (4 * length s) = mul-le-mul-right _ (omega arith) in
-    rw p (omega arith)
-
--- the bits of a bitmap line are as many as its box is wide
-pub row-bits : (width : ℕ) (l : List ℕ) → isRow width l ≡ true → rowBits width l < 2 ^ width
-unfolding isRow rowBits
-row-bits width l e =
-    let n = 8 * ((width + 7) / 8) in
-    let h = and-eq-true-iff (eqb (length l) (2 * ((width + 7) / 8))) (areHex l) .0 e in
-    let i = hex-bits 0 l (h .1) in
-    let d : length l ≡ 2 * ((width + 7) / 8) = eqb-true _ _ (h .0) in
-    let q : 4 * length l ≡ width + (n - width) = omega arith in
-    shr-lt width (n - width) (rw (← q) (omega arith))
 
 -- ---- the forms of an answer
 

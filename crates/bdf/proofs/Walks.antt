@@ -1,41 +1,31 @@
--- Laws of the walk over a file's lines: what a line does to the rest, and where a bitmap line stands. Assumes nothing.
-use Prim.Native.Nat.{ℕ, zero, suc, _+_, _-_, _*_, _/_, _%_, _^_, _≤_, _<_}
-use native.Mathlib.Nat.{mul-le-mul-right, zero-add}
+-- Laws of the walk over a file's lines: what a line does to the rest, and bitmap lines one after another. Assumes nothing.
+use Prim.Native.Nat.{ℕ, zero, suc, _+_, _-_, _≤_, _<_}
 use native.Mathlib.Omega.{arith}
-use native.Mathlib.Numerals.{add-one}
 use native.Mathlib.Decide.{decLt}
 use mathlib.Core.Path.{_≡_, refl, sym, ap, _∙_}
-use mathlib.Core.Bool.{Bool, true, false, not, cond, _&&_, true≢false, and-eq-true-iff}
-use mathlib.Core.Logic.{_⊎_, inl, inr}
+use mathlib.Core.Bool.{Bool, true, false, true≢false, and-eq-true-iff}
 use mathlib.Core.List.{List, [], _∷_, map}
-use lib.ListN.{length, take, drop, getD, length-drop}
-use lib.Seq.{getD-drop, getD-take, drop-cons, drop-drop, take-take, length-take-le}
-use lib.Dec.{ltb, leb, eqb}
-use mir.Syntax.{w32, w64}
-use mir.Val.{Fits}
-use borrow.Author.Tests.{lt-ltb, eq-eqb, ne-eqb, eqb-true, ltb-true, not-true, not-false}
+use lib.ListN.{length, take, drop, getD}
+use lib.Dec.{ltb, eqb}
+use borrow.Author.Tests.{eq-eqb, ne-eqb, eqb-true, ltb-true}
+use Rattle.bdf_lines.specs.Forms.{lineAt}
 use Rattle.bdf.specs.declared.reader.Expected.{Expected}
 use Rattle.bdf.specs.declared.reader.Expected.the-variants.{StartFont, Font, Size, FontBoundingBox, Properties, Property, Chars, Glyph, Encoding, Swidth, Dwidth, Bbx, Attributes, Bitmap, Rows, Nothing}
 use Rattle.bdf.specs.declared.reader.Answer.{Answer}
 use Rattle.bdf.specs.declared.reader.Answer.the-variants as answer
 use Rattle.bdf.specs.declared.reader.Reader.{Reader}
-use Rattle.bdf.specs.Reader.{start, order, inBitmap, withRow, rowLine, step, refusalOf, after, firstRefusal, lastReader}
+use Rattle.bdf.specs.Reader.{order, inBitmap, withRow, rowLine, step, refusalOf, after, firstRefusal, lastReader}
 use Rattle.bdf.specs.declared.file.Measured.{Measured}
 use Rattle.bdf.specs.declared.file.Measured.the-variants.{Refused, Good}
-use Rattle.bdf.specs.declared.file.RowAt.{RowAt}
-use Rattle.bdf.specs.declared.file.RowAt.the-variants as found
-use Rattle.bdf.specs.declared.words.Rest.{Rest}
-use Rattle.bdf.specs.declared.words.Rest.the-variants as rest
-use Rattle.bdf.specs.declared.values.Row.{Row}
-use Rattle.bdf.specs.declared.values.Row.the-variants as row
-use Rattle.bdf.specs.Words.{words, isDigit, isHex, areHex, isRow, rowBits, rowOf}
+use Rattle.bdf_lines.specs.declared.values.Row.the-variants as row
+use Rattle.bdf_lines.specs.Words.{words, rowOf}
 use Rattle.bdf.specs.Writing.{putLines}
 use Rattle.bdf.specs.Within.{Within}
-use Rattle.bdf.specs.Walk.{linesFrom, lineAt, measured, putIf, putLinesIf, Room, Carries, IsFeedAt, FeedFound, IsRowAt, RowFound}
+use Rattle.bdf.specs.Walk.{linesFrom, measured, putIf, putLinesIf, Room, Carries}
 use Rattle.characters.specs.Lines.{lineLength, withoutReturn}
-use Rattle.characters.proofs.Feeds.{line-part, lines-more, lines-last, return-absent, return-dropped}
+use Rattle.characters.proofs.Feeds.{line-part, lines-more, lines-last}
 use Rattle.bdf.proofs.Steps.{step-bitmap, expected-is, bitmap-row}
-use Rattle.bdf.proofs.Invariant.{within-start, within-step}
+use Rattle.bdf.proofs.Invariant.{within-step}
 
 -- ---- answers
 
@@ -189,155 +179,6 @@ module _ (r : Reader) (n : ℕ) (e : n ≡ order (r .expected)) where
 
 pub line-is : (file x : List ℕ) (at end : ℕ) (r : Reader) (a : Answer) → end ≡ at + lineLength (drop at file) → x ≡ withoutReturn (take (end - at) (drop at file)) → a ≡ step r x → a ≡ step r (lineAt file at)
 line-is file x at end r a e q f = f ∙ ap (step r) (q ∙ ap withoutReturn (line-part file at end e))
-
--- ---- a bitmap line, found by its digits
-
--- a hexadecimal digit is no feed and no return
-hex-other : (b : ℕ) → isHex b ≡ true → (b ≡ 0x0A) ⊎ (b ≡ 0x0D) → ⊥
-unfolding isHex isDigit
-hex-other b h (inl e) = true≢false (sym h ∙ rw e)
-hex-other b h (inr e) = true≢false (sym h ∙ rw e)
-
-hex-no-return : (l : List ℕ) → areHex l ≡ true → (i : ℕ) → getD l i 0 ≡ 0x0D → ⊥
-unfolding areHex
-hex-no-return [] h i e = absurd (omega arith)
-hex-no-return (b ∷ l) h zero e = hex-other b (and-eq-true-iff (isHex b) (areHex l) .0 h .0) (inr e)
-hex-no-return (b ∷ l) h (suc i) e = hex-no-return l (and-eq-true-iff (isHex b) (areHex l) .0 h .1) i e
-
--- a line goes on after its digits
-hex-line : (n : ℕ) (s : List ℕ) → areHex (take n s) ≡ true → n ≤ length s → lineLength s ≡ n + lineLength (drop n s)
-unfolding areHex lineLength
-hex-line zero s h l = sym (zero-add (lineLength s))
-hex-line (suc n) [] h l = absurd (omega arith)
-hex-line (suc n) (b ∷ s) h l =
-    let c = and-eq-true-iff (isHex b) (areHex (take n s)) .0 h in
-    rw (ne-eqb b 0x0A (λ f. hex-other b (c .0) (inl f))) (omega (arith, hex-line n s (c .1) (omega arith)))
-
--- it ends at a feed, and goes on after a return
-module _ (s : List ℕ) (i : ℕ) (h : i < length s) where
-  feed-line : getD s i 0 ≡ 0x0A → lineLength (drop i s) ≡ 0
-  unfolding lineLength
-  feed-line e = rw (drop-cons s i 0 h, eq-eqb (getD s i 0) 0x0A e)
-
-  return-line : getD s i 0 ≡ 0x0D → lineLength (drop i s) ≡ suc (lineLength (drop (i + 1) s))
-  unfolding lineLength
-  return-line e = rw (drop-cons s i 0 h, e, add-one i)
-
-  -- a line without its return
-  return-cut : getD s i 0 ≡ 0x0D → withoutReturn (take (i + 1) s) ≡ take i s
-  return-cut e =
-      let n : length (take (i + 1) s) - 1 ≡ i = omega (arith, length-take-le (i + 1) s (omega arith)) in
-      sym (return-dropped (take (i + 1) s) (rw n (getD-take (i + 1) s i 0 (omega arith) ∙ e))) ∙ rw n (take-take i (i + 1) s (omega arith))
-
--- ---- `feed_at`
-
-isAt : Rest → Bool
-isAt (rest.At k) = true
-isAt rest.Wrong = false
-
-placeOf : Rest → ℕ
-placeOf (rest.At k) = k
-placeOf rest.Wrong = 0
-
-module _ (file : List ℕ) (at : ℕ) where
-  pub feed-none : FeedFound file at rest.Wrong
-  unfolding isAt
-  feed-none = record { found = λ k e. absurd (true≢false (sym (ap isAt e))) }
-
-  feed-is : (end : ℕ) → IsFeedAt file at end → FeedFound file at (rest.At end)
-  unfolding placeOf
-  feed-is end f = record { found = λ k e. rw (← ap placeOf e) f }
-
-  pub feed-here : at < length file → getD file at 0 ≡ 0x0A → FeedFound file at (rest.At at)
-  feed-here h e = feed-is at (record { inside = h; feed = e; place = inl refl })
-
-  pub feed-next : getD file at 0 ≡ 0x0D → at + 1 < length file → getD file (at + 1) 0 ≡ 0x0A → FeedFound file at (rest.At (at + 1))
-  feed-next r h e = feed-is (at + 1) (record { inside = h; feed = e; place = inr (refl, r) })
-
--- ---- `row_at`
-
-isRowBits : Row → Bool
-isRowBits (row.Bits v) = true
-isRowBits row.Wrong = false
-
-pub row-apart : (v : ℕ) → row.Bits v ≡ row.Wrong → ⊥
-unfolding isRowBits
-row-apart v e = true≢false (ap isRowBits e)
-
-isBits : RowAt → Bool
-isBits (found.Bits v e) = true
-isBits found.Wrong = false
-
-bitsOf : RowAt → ℕ
-bitsOf (found.Bits v e) = v
-bitsOf found.Wrong = 0
-
-endOf : RowAt → ℕ
-endOf (found.Bits v e) = e
-endOf found.Wrong = 0
-
-module _ (file : List ℕ) (at width : ℕ) where
-  pub row-none : RowFound file at width found.Wrong
-  unfolding isBits
-  row-none = record { found = λ bits stop e. absurd (true≢false (sym (ap isBits e))) }
-
-  abbrev to : ℕ
-  to = at + 2 * ((width + 7) / 8)
-
-  module _ (bits end : ℕ) (x : Row) (y : Rest) (more : 2 * ((width + 7) / 8) < length file - at) (g : FeedFound file to y) (u : y ≡ rest.At end)
-      (q : x ≡ rowOf width (take (to - at) (drop at file))) (t : x ≡ row.Bits bits) where
-    digits : List ℕ
-    digits = take (to - at) (drop at file)
-
-    is-row : isRow width digits ≡ true
-    unfolding digits rowOf
-    is-row = go (isRow width digits) (sym t ∙ q)
-      where
-        go : (u : Bool) → row.Bits bits ≡ cond u (row.Bits (rowBits width digits)) row.Wrong → u ≡ true
-        go true e = refl
-        go false e = absurd (row-apart bits e)
-
-    are-hex : areHex digits ≡ true
-    unfolding isRow
-    are-hex = and-eq-true-iff (eqb (length digits) (2 * ((width + 7) / 8))) (areHex digits) .0 is-row .1
-
-    line-goes-on : lineLength (drop at file) ≡ to - at + lineLength (drop to file)
-    unfolding digits
-    line-goes-on =
-        let n : at + (to - at) ≡ to = omega arith in
-        let d : drop (to - at) (drop at file) ≡ drop to file = drop-drop (to - at) at file ∙ ap (λ (k : ℕ). drop k file) n in
-        rw d at (hex-line (to - at) (drop at file) are-hex (rw length-drop (omega arith)))
-
-    feed : IsFeedAt file to end
-    feed = g .found end u
-
-    line-ends : end ≡ at + lineLength (drop at file)
-    line-ends = go (feed .place)
-      where
-        go : (end ≡ to) ⊎ ((end ≡ to + 1) × (getD file to 0 ≡ 0x0D)) → end ≡ at + lineLength (drop at file)
-        go (inl e) = omega (arith, line-goes-on, feed-line file to (omega arith) (rw e at (feed .feed)))
-        go (inr (e, r)) = omega (arith, line-goes-on, return-line file to (omega arith) r, feed-line file (to + 1) (rw e at (feed .inside)) (rw e at (feed .feed)))
-
-    line-digits : lineAt file at ≡ digits
-    unfolding digits
-    line-digits = ap withoutReturn (sym (line-part file at end line-ends)) ∙ go (feed .place)
-      where
-        go : (end ≡ to) ⊎ ((end ≡ to + 1) × (getD file to 0 ≡ 0x0D)) → withoutReturn (take (end - at) (drop at file)) ≡ digits
-        go (inl e) = rw e (sym (return-absent digits (hex-no-return digits are-hex (length digits - 1))))
-        go (inr (e, r)) =
-            let n : end - at ≡ to - at + 1 = omega arith in
-            let m : at + (to - at) ≡ to = omega arith in
-            rw n (return-cut (drop at file) (to - at) (rw length-drop (omega arith)) (getD-drop at file (to - at) 0 ∙ rw m r))
-
-    pub row-found : RowFound file at width (found.Bits bits end)
-    unfolding digits bitsOf endOf
-    row-found = record {
-      found = λ v e p. rw (← ap bitsOf p, ← ap endOf p) (record {
-        ends = line-ends;
-        more = feed .inside;
-        bitmap = ap (rowOf width) line-digits ∙ sym q ∙ t;
-      });
-    }
 
 -- ---- bitmap lines one after another
 

@@ -1,6 +1,3 @@
-pub mod Words
-pub mod Keywords
-pub mod Positions
 pub mod Reader
 pub mod Font
 pub mod Writing
@@ -9,5 +6,3 @@ pub mod Stores
 pub mod Within
 pub mod Walk
 pub mod Usual
-pub mod Table
-pub mod Stands

@@ -8,23 +8,23 @@ use lib.Dec.{ltb, leb, eqb}
 use Rattle.characters.specs.Refusal.{need, orElse, all}
 use Rattle.characters.specs.Utf8.{isSurrogate}
 use Rattle.characters.specs.Lines.{lines, withoutReturn}
-use Rattle.bdf.specs.declared.values.Number.{Number}
-use Rattle.bdf.specs.declared.values.Read.{Read}
-use Rattle.bdf.specs.declared.values.Read.the-variants as read
-use Rattle.bdf.specs.declared.values.Count.{Count}
-use Rattle.bdf.specs.declared.values.Count.the-variants as count
-use Rattle.bdf.specs.declared.values.Four.{Four}
-use Rattle.bdf.specs.declared.values.Four.the-variants as four
-use Rattle.bdf.specs.declared.values.Row.{Row}
-use Rattle.bdf.specs.declared.values.Row.the-variants as row
+use Rattle.bdf_lines.specs.declared.values.Number.{Number}
+use Rattle.bdf_lines.specs.declared.values.Read.{Read}
+use Rattle.bdf_lines.specs.declared.values.Read.the-variants as read
+use Rattle.bdf_lines.specs.declared.values.Count.{Count}
+use Rattle.bdf_lines.specs.declared.values.Count.the-variants as count
+use Rattle.bdf_lines.specs.declared.values.Four.{Four}
+use Rattle.bdf_lines.specs.declared.values.Four.the-variants as four
+use Rattle.bdf_lines.specs.declared.values.Row.{Row}
+use Rattle.bdf_lines.specs.declared.values.Row.the-variants as row
 use Rattle.bdf.specs.declared.reader.BoundingBox.{BoundingBox}
 use Rattle.bdf.specs.declared.reader.Expected.{Expected}
 use Rattle.bdf.specs.declared.reader.Expected.the-variants.{StartFont, Font, Size, FontBoundingBox, Properties, Property, Chars, Glyph, Encoding, Swidth, Dwidth, Bbx, Attributes, Bitmap, Rows, Nothing}
 use Rattle.bdf.specs.declared.reader.Reader.{Reader}
 use Rattle.bdf.specs.declared.reader.Answer.{Answer}
 use Rattle.bdf.specs.declared.reader.Answer.the-variants.{Refused, Passed, Boxed, Encoded, Drawn}
-use Rattle.bdf.specs.Words.{words, isAlone, isNamed, isPair, isComment, hasNumbers, countOf, fourOf, encodingOf, isHexPair, rowOf}
-use Rattle.bdf.specs.Keywords as word
+use Rattle.bdf_lines.specs.Words.{words, isAlone, isNamed, isPair, isComment, hasNumbers, countOf, fourOf, encodingOf, isHexPair, rowOf}
+use Rattle.bdf_lines.specs.Keywords as word
 
 -- ---- boxes
 

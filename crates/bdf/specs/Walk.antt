@@ -4,26 +4,18 @@ use Prim.Native.Nat.{ℕ, zero, suc, _+_, _-_, _*_, _/_, _%_, _^_, _≤_, _<_}
 use mathlib.Core.Path.{_≡_}
 use mathlib.Core.Bool.{Bool, true, false}
 use mathlib.Core.List.{List, [], map}
-use mathlib.Core.Logic.{_⊎_}
-use lib.ListN.{length, take, drop, getD}
+use lib.ListN.{length, take, drop}
 use borrow.Rule.Slice.PartMut.{putMid}
 use Rattle.geometry.specs.Layer.{mapIndexed}
-use Rattle.characters.specs.Lines.{lines, withoutReturn, lineFrom, lineLength}
-use Rattle.bdf.specs.declared.values.Row.{Row}
-use Rattle.bdf.specs.declared.values.Row.the-variants as row
+use Rattle.characters.specs.Lines.{lines, withoutReturn}
 use Rattle.bdf.specs.declared.reader.Expected.the-variants.{Rows}
 use Rattle.bdf.specs.declared.reader.Reader.{Reader}
 use Rattle.bdf.specs.declared.reader.Answer.{Answer}
 use Rattle.bdf.specs.declared.reader.Answer.the-variants as answer
 use Rattle.bdf.specs.declared.file.Measured.{Measured}
 use Rattle.bdf.specs.declared.file.Measured.the-variants.{Refused, Good}
-use Rattle.bdf.specs.declared.file.RowAt.{RowAt}
-use Rattle.bdf.specs.declared.file.RowAt.the-variants as found
 use Rattle.bdf.specs.declared.file.Strip.{Strip}
-use Rattle.bdf.specs.declared.words.Rest.{Rest}
-use Rattle.bdf.specs.declared.words.Rest.the-variants as rest
 use Rattle.bdf.specs.declared.file.Turned.{Turned}
-use Rattle.bdf.specs.Words.{rowOf}
 use Rattle.bdf.specs.Reader.{spelling, start, firstRefusal, lastReader, fileLines}
 use Rattle.bdf.specs.Font.{inkLeft, inkTop, stride, atlasSize, refusal}
 use Rattle.bdf.specs.Writing.{withBits, put, putLines}
@@ -32,10 +24,6 @@ use Rattle.bdf.specs.Within.{Within}
 -- the lines from a position on
 unfoldable pub linesFrom : List ℕ → ℕ → List (List ℕ)
 linesFrom file at = map withoutReturn (lines (drop at file))
-
--- the line from a position on
-abbrev pub lineAt : List ℕ → ℕ → List ℕ
-lineAt file at = withoutReturn (lineFrom file at)
 
 abbrev pub measuredOf : ℕ → Reader → Measured
 measuredOf zero r = Good r
@@ -109,24 +97,6 @@ pub record StripFits (writing : Bool) (s : Strip) (i bits n : ℕ) : Type 0 wher
   pub rows : s .top + i < 4_194_304
   pub small : writing ≡ true → bits < 2 ^ (s .right - s .left)
   pub room : writing ≡ true → (s .top + i) * s .stride + s .stride ≤ n
-
--- the feed that ends a line's digits at a position: there, or after a return
-pub record IsFeedAt (file : List ℕ) (at end : ℕ) : Type 0 where
-  pub inside : end < length file
-  pub feed : getD file end 0 ≡ 0x0A
-  pub place : (end ≡ at) ⊎ ((end ≡ at + 1) × (getD file at 0 ≡ 0x0D))
-
-pub record FeedFound (file : List ℕ) (at : ℕ) (x : Rest) : Type 0 where
-  pub found : (end : ℕ) → x ≡ rest.At end → IsFeedAt file at end
-
--- the bitmap line from a position on, if a feed ends it
-pub record IsRowAt (file : List ℕ) (at width bits end : ℕ) : Type 0 where
-  pub ends : end ≡ at + lineLength (drop at file)
-  pub more : end < length file
-  pub bitmap : rowOf width (lineAt file at) ≡ row.Bits bits
-
-pub record RowFound (file : List ℕ) (at width : ℕ) (x : RowAt) : Type 0 where
-  pub found : (bits end : ℕ) → x ≡ found.Bits bits end → IsRowAt file at width bits end
 
 -- a spelling put from a position on, if it is written
 abbrev pub putSpellingIf : Bool → ℕ → ℕ → List ℕ → List ℕ

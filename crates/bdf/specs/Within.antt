@@ -2,7 +2,7 @@
 -- Serves contracts: nothing here has to be believed.
 use Prim.Native.Nat.{ℕ, _≤_}
 use mathlib.Core.Path.{_≡_}
-use Rattle.bdf.specs.declared.values.Number.{Number}
+use Rattle.bdf_lines.specs.declared.values.Number.{Number}
 use Rattle.bdf.specs.declared.reader.Expected.the-variants.{Swidth, Bitmap, Rows}
 use Rattle.bdf.specs.declared.reader.Reader.{Reader}
 use Rattle.bdf.specs.Reader.{origin, order}

@@ -6,9 +6,10 @@ use super::reader::Expected;
 use super::reader::Reader;
 use super::usual;
 use super::usual::AnswerAt;
-use super::values;
-use super::values::Row;
-use super::words::Rest;
+use bdf_lines::forms;
+use bdf_lines::forms::RowAt;
+use bdf_lines::values;
+use bdf_lines::words::Rest;
 use characters::lines::line_end;
 use characters::lines::without_return;
 ghost use mathlib.Core.Path.{_≡_};
@@ -18,20 +19,14 @@ ghost use mathlib.Core.List.{[]};
 ghost use mathlib.Core.Bool.{true};
 ghost use Rattle.characters.specs.Lines.{lineLength};
 ghost use Rattle.bdf.specs.Reader.{start, inBitmap, step, firstRefusal, lastReader};
-ghost use Rattle.bdf.specs.Table.{IsTable};
+ghost use Rattle.bdf_lines.specs.Forms.{lineAt};
 ghost use Rattle.bdf.specs.Within.{Within};
-ghost use Rattle.bdf.specs.Walk.{lineAt, linesFrom, measured, putIf, putLinesIf, Room, Carries, LineOver, rowsRead, stripOf, putStripIf, StripFits, FeedFound, RowFound, putSpellingIf, SpellingFits, AnswerFits};
+ghost use Rattle.bdf.specs.Walk.{linesFrom, measured, putIf, putLinesIf, Room, Carries, LineOver, rowsRead, stripOf, putStripIf, StripFits, putSpellingIf, SpellingFits, AnswerFits};
 
 // What a line does, and where it ends: at its feed, or at the file's end.
 pub struct LineRead {
     pub answer: Answer,
     pub end: usize,
-}
-
-// A bitmap line that ends in a feed: its bits, and where the feed stands.
-pub enum RowAt {
-    Bits(u64, usize),
-    Wrong,
 }
 
 // Where the lines of a bitmap stand in the atlas: the row of the first, the pixels, and the bytes of a row.
@@ -59,48 +54,6 @@ pub struct Position {
 pub enum Measured {
     Refused(u32),
     Good(Reader),
-}
-
-// Where the feed stands that ends a line's digits at a position: there, or after a return.
-fn feed_at(file: &[u8], at: usize) -> Rest
-    requires { ⌜ at < length (now file) ⌝ }
-    ensures { λ r. ⌜ FeedFound (now (file .entry)) at r ⌝ }
-{
-    if file[at] == 0x0A {
-        return Rest::At(at);
-    }
-    if file[at] != 0x0D {
-        return Rest::Wrong;
-    }
-    let next = at + 1;
-    if file.len() <= next {
-        return Rest::Wrong;
-    }
-    if file[next] != 0x0A {
-        return Rest::Wrong;
-    }
-    Rest::At(next)
-}
-
-// The bitmap line from a position on, found by the number of its digits, if a feed ends it.
-fn row_at(file: &[u8], at: usize, width: u32, table: &[u8; 256]) -> RowAt
-    requires { ⌜ at ≤ length (now file) ⌝ }
-    requires { ⌜ width ≤ 64 ⌝ }
-    requires { ⌜ IsTable (now table) ⌝ }
-    ensures { λ r. ⌜ RowFound (now (file .entry)) at width r ⌝ }
-{
-    let digits = 2 * ((width + 7) / 8) as usize;
-    if file.len() - at <= digits {
-        return RowAt::Wrong;
-    }
-    let to = at + digits;
-    let Rest::At(end) = feed_at(file, to) else {
-        return RowAt::Wrong;
-    };
-    let Row::Bits(bits) = values::row_of(&file[at..to], width, table) else {
-        return RowAt::Wrong;
-    };
-    RowAt::Bits(bits, end)
 }
 
 // What the line from a position on does.
@@ -196,7 +149,7 @@ fn put_rows(
     let mut at = from;
     let mut read = reader.read;
     while read < height {
-        let RowAt::Bits(bits, end) = row_at(file, at, width, &table) else {
+        let RowAt::Bits(bits, end) = forms::row_at(file, at, width, &table) else {
             return Position {
                 reader: rows_read(reader, read),
                 at,

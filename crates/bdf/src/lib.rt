@@ -13,8 +13,6 @@ pub mod file;
 pub mod glyphs;
 pub mod reader;
 pub mod usual;
-pub mod values;
-pub mod words;
 
 // What reading a font file comes to: a refusal, or the length of the font that was written.
 pub enum Outcome {

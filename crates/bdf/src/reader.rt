@@ -1,18 +1,18 @@
 // A reader of font files: its state between two lines, and what a line does to it.
 use super::glyphs;
-use super::values;
-use super::values::Count;
-use super::values::Four;
-use super::values::Number;
-use super::values::Read;
-use super::values::Row;
-use super::words;
+use bdf_lines::values;
+use bdf_lines::values::Count;
+use bdf_lines::values::Four;
+use bdf_lines::values::Number;
+use bdf_lines::values::Read;
+use bdf_lines::values::Row;
+use bdf_lines::words;
 ghost use mathlib.Core.Path.{_≡_};
 ghost use Prim.Native.Nat.{_+_, _≤_, _<_};
 ghost use lib.Dec.{leb};
-ghost use Rattle.bdf.specs.Keywords.{startProperties, chars};
+ghost use Rattle.bdf_lines.specs.Keywords.{startProperties, chars};
 ghost use Rattle.bdf.specs.declared.reader.Expected.the-variants.{Property, Glyph, Attributes, Rows};
-ghost use Rattle.bdf.specs.Words.{words, countOf};
+ghost use Rattle.bdf_lines.specs.Words.{words, countOf};
 ghost use Rattle.bdf.specs.Within.{Within, IsBox};
 ghost use Rattle.bdf.specs.Reader.{origin, place, box, isCell, isInCell, isCharacter, expecting, leaving, moved, counted, cellLine, propertiesLine, spellingLine, encodingLine, bbxLine, rowLine, lineStep, order, inBitmap, start, step, refusalOf, after};
 

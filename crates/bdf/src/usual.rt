@@ -1,206 +1,25 @@
-// The usual forms of a glyph's lines, read where they stand in the file: one blank between words, and a feed at the end. Any other form
-// goes the general way.
+// What a glyph's lines in their usual form do, read where they stand in the file. Any other form goes the general way.
 use super::reader;
 use super::reader::Answer;
 use super::reader::Expected;
 use super::reader::Reader;
-use super::values;
-use super::values::Four;
-use super::values::Number;
-use super::values::Read;
-use super::values::ReadAt;
-use super::words::Rest;
-use characters::lines::line_end;
+use bdf_lines::forms;
+use bdf_lines::forms::FourAt;
+use bdf_lines::values::Four;
+use bdf_lines::values::Read;
+use bdf_lines::values::ReadAt;
+use bdf_lines::words::Rest;
 ghost use mathlib.Core.Path.{_≡_};
 ghost use Prim.Native.Nat.{_-_, _<_, _≤_};
 ghost use lib.ListN.{length, getD};
-ghost use Rattle.bdf.specs.Keywords.{startChar, swidth, dwidth, bitmap, endChar};
-ghost use Rattle.bdf.specs.Words.{isAlone, isNamed, hasNumbers};
 ghost use Rattle.bdf.specs.declared.reader.Expected.the-variants.{Glyph, Encoding, Swidth, Dwidth, Bbx, Attributes, Rows};
 ghost use Rattle.bdf.specs.Within.{Within};
-ghost use Rattle.bdf.specs.Stands.{BytesFound, DigitsFound, NumberFound, TwoFound, TwoMore};
-ghost use Rattle.bdf.specs.Usual.{UsualLine, UsualEncoding, UsualBbx, movedOn, UsualMove, UsualAnswer};
-
-// Four numbers, and the position after their feed.
-pub enum FourAt {
-    Numbers(Number, Number, Number, Number, usize),
-    Wrong,
-}
+ghost use Rattle.bdf.specs.Usual.{movedOn, UsualMove, UsualAnswer};
 
 // A line's answer, and the position after its feed.
 pub enum AnswerAt {
     At(Answer, usize),
     Other,
-}
-
-// Whether given bytes stand at a position, and the position after them.
-fn after_bytes(file: &[u8], at: usize, bytes: &[u8]) -> Rest
-    requires { ⌜ at ≤ length (now file) ⌝ }
-    ensures { λ r. ⌜ BytesFound (now (file .entry)) at (now (bytes .entry)) r ⌝ }
-{
-    if file.len() - at < bytes.len() {
-        return Rest::Wrong;
-    }
-    let mut i = 0;
-    while i < bytes.len() {
-        if file[at + i] != bytes[i] {
-            return Rest::Wrong;
-        }
-        i += 1;
-    }
-    Rest::At(at + bytes.len())
-}
-
-// The number whose digits stand from a position on, up to a given byte, and the position after that.
-fn digits_to(file: &[u8], from: usize, minus: bool, stop: u8) -> ReadAt
-    ensures { λ r. ⌜ DigitsFound (now (file .entry)) from minus stop r ⌝ }
-{
-    let mut v = 0;
-    let mut i = from;
-    while i < file.len() {
-        let b = file[i];
-        if !values::is_digit(b) {
-            if (b != stop) | (i == from) {
-                return ReadAt::Wrong;
-            }
-            return ReadAt::Value(
-                Number {
-                    negative: minus & (0 < v),
-                    size: v,
-                },
-                i + 1,
-            );
-        }
-        v = values::appended(v, b);
-        i += 1;
-    }
-    ReadAt::Wrong
-}
-
-// The number that stands from a position on, up to a given byte, and the position after that.
-fn number_to(file: &[u8], from: usize, stop: u8) -> ReadAt
-    ensures { λ r. ⌜ NumberFound (now (file .entry)) from stop r ⌝ }
-{
-    let mut at = from;
-    let mut minus = false;
-    if from < file.len() {
-        if file[from] == 0x2D {
-            at = from + 1;
-            minus = true;
-        }
-    }
-    digits_to(file, at, minus, stop)
-}
-
-// Given bytes and two numbers.
-fn two_numbers(file: &[u8], at: usize, name: &[u8]) -> Rest
-    requires { ⌜ at ≤ length (now file) ⌝ }
-    ensures { λ r. ⌜ TwoFound (now (file .entry)) at (now (name .entry)) r ⌝ }
-{
-    let Rest::At(first) = after_bytes(file, at, name) else {
-        return Rest::Wrong;
-    };
-    let ReadAt::Value(_, second) = number_to(file, first, 0x20) else {
-        return Rest::Wrong;
-    };
-    let ReadAt::Value(_, end) = number_to(file, second, 0x0A) else {
-        return Rest::Wrong;
-    };
-    Rest::At(end)
-}
-
-// STARTCHAR and a name.
-fn start_char(file: &[u8], at: usize) -> Rest
-    requires { ⌜ at ≤ length (now file) ⌝ }
-    ensures { λ r. ⌜ UsualLine (now (file .entry)) at (isNamed startChar) r ⌝ }
-{
-    let Rest::At(first) = after_bytes(file, at, b"STARTCHAR ") else {
-        return Rest::Wrong;
-    };
-    if file.len() <= first {
-        return Rest::Wrong;
-    }
-    if file[first] <= 0x20 {
-        return Rest::Wrong;
-    }
-    let end = line_end(file, first);
-    if file.len() <= end {
-        return Rest::Wrong;
-    }
-    Rest::At(end + 1)
-}
-
-// SWIDTH and two numbers.
-fn scalable_width(file: &[u8], at: usize) -> Rest
-    requires { ⌜ at ≤ length (now file) ⌝ }
-    ensures { λ r. ⌜ UsualLine (now (file .entry)) at (hasNumbers swidth 2) r ⌝ }
-{
-    two_numbers(file, at, b"SWIDTH ")
-}
-
-// DWIDTH and two numbers.
-fn device_width(file: &[u8], at: usize) -> Rest
-    requires { ⌜ at ≤ length (now file) ⌝ }
-    ensures { λ r. ⌜ UsualLine (now (file .entry)) at (hasNumbers dwidth 2) r ⌝ }
-{
-    two_numbers(file, at, b"DWIDTH ")
-}
-
-// BITMAP alone.
-fn bitmap_alone(file: &[u8], at: usize) -> Rest
-    requires { ⌜ at ≤ length (now file) ⌝ }
-    ensures { λ r. ⌜ UsualLine (now (file .entry)) at (isAlone bitmap) r ⌝ }
-{
-    after_bytes(file, at, b"BITMAP\n")
-}
-
-// ENDCHAR alone.
-fn end_char(file: &[u8], at: usize) -> Rest
-    requires { ⌜ at ≤ length (now file) ⌝ }
-    ensures { λ r. ⌜ UsualLine (now (file .entry)) at (isAlone endChar) r ⌝ }
-{
-    after_bytes(file, at, b"ENDCHAR\n")
-}
-
-// ENCODING and a number.
-fn encoding_at(file: &[u8], at: usize) -> ReadAt
-    requires { ⌜ at ≤ length (now file) ⌝ }
-    ensures { λ r. ⌜ UsualEncoding (now (file .entry)) at r ⌝ }
-{
-    let Rest::At(first) = after_bytes(file, at, b"ENCODING ") else {
-        return ReadAt::Wrong;
-    };
-    number_to(file, first, 0x0A)
-}
-
-// The two last of four numbers, after the others.
-fn two_more(file: &[u8], at: usize, a: Number, b: Number) -> FourAt
-    ensures { λ r. ⌜ TwoMore (now (file .entry)) at a b r ⌝ }
-{
-    let ReadAt::Value(c, fourth) = number_to(file, at, 0x20) else {
-        return FourAt::Wrong;
-    };
-    let ReadAt::Value(d, end) = number_to(file, fourth, 0x0A) else {
-        return FourAt::Wrong;
-    };
-    FourAt::Numbers(a, b, c, d, end)
-}
-
-// BBX and four numbers.
-fn bbx_at(file: &[u8], at: usize) -> FourAt
-    requires { ⌜ at ≤ length (now file) ⌝ }
-    ensures { λ r. ⌜ UsualBbx (now (file .entry)) at r ⌝ }
-{
-    let Rest::At(first) = after_bytes(file, at, b"BBX ") else {
-        return FourAt::Wrong;
-    };
-    let ReadAt::Value(a, second) = number_to(file, first, 0x20) else {
-        return FourAt::Wrong;
-    };
-    let ReadAt::Value(b, third) = number_to(file, second, 0x20) else {
-        return FourAt::Wrong;
-    };
-    two_more(file, third, a, b)
 }
 
 // STARTCHAR, where it is expected and no feed stands.
@@ -213,7 +32,7 @@ fn start_move(file: &[u8], at: usize, reader: Reader) -> Rest
     if reader.left == 0 {
         return Rest::Wrong;
     }
-    start_char(file, at)
+    forms::start_char(file, at)
 }
 
 // An empty line, or STARTCHAR, where a glyph is expected.
@@ -237,7 +56,7 @@ fn scalable_move(file: &[u8], at: usize, reader: Reader) -> Rest
     requires { ⌜ reader .expected ≡ Swidth ⌝ }
     ensures { λ r. ⌜ UsualMove (now (file .entry)) at reader r ⌝ }
 {
-    scalable_width(file, at)
+    forms::scalable_width(file, at)
 }
 
 // DWIDTH.
@@ -246,7 +65,7 @@ fn device_move(file: &[u8], at: usize, reader: Reader) -> Rest
     requires { ⌜ reader .expected ≡ Dwidth ⌝ }
     ensures { λ r. ⌜ UsualMove (now (file .entry)) at reader r ⌝ }
 {
-    device_width(file, at)
+    forms::device_width(file, at)
 }
 
 // BITMAP.
@@ -255,7 +74,7 @@ fn bitmap_move(file: &[u8], at: usize, reader: Reader) -> Rest
     requires { ⌜ reader .expected ≡ Attributes ⌝ }
     ensures { λ r. ⌜ UsualMove (now (file .entry)) at reader r ⌝ }
 {
-    bitmap_alone(file, at)
+    forms::bitmap_alone(file, at)
 }
 
 // ENDCHAR, after the last bitmap line.
@@ -268,7 +87,7 @@ fn end_move(file: &[u8], at: usize, reader: Reader) -> Rest
     if reader.read < bbx.height {
         return Rest::Wrong;
     }
-    end_char(file, at)
+    forms::end_char(file, at)
 }
 
 // The line from a position on, if it only leads to another state.
@@ -338,7 +157,7 @@ fn encoding_answer(file: &[u8], at: usize, reader: Reader) -> AnswerAt
     requires { ⌜ reader .expected ≡ Encoding ⌝ }
     ensures { λ r. ⌜ UsualAnswer (now (file .entry)) at reader r ⌝ }
 {
-    let ReadAt::Value(n, to) = encoding_at(file, at) else {
+    let ReadAt::Value(n, to) = forms::encoding_at(file, at) else {
         return AnswerAt::Other;
     };
     AnswerAt::At(reader::encoding_line(Read::Value(n), reader), to)
@@ -351,7 +170,7 @@ fn bbx_answer(file: &[u8], at: usize, reader: Reader) -> AnswerAt
     requires { ⌜ reader .expected ≡ Bbx ⌝ }
     ensures { λ r. ⌜ UsualAnswer (now (file .entry)) at reader r ⌝ }
 {
-    let FourAt::Numbers(w, h, x, y, to) = bbx_at(file, at) else {
+    let FourAt::Numbers(w, h, x, y, to) = forms::bbx_at(file, at) else {
         return AnswerAt::Other;
     };
     AnswerAt::At(reader::bbx_line(Four::Numbers(w, h, x, y), reader), to)

@@ -3,7 +3,7 @@
 use borrow.Author.Needs.{needs}
 use Rattle.bdf.proofs.Strips.{bitmap-glyph, rows-start, rows-end, row-strip-fits, row-end-fits, rows-step}
 use Prim.Native.Nat.{_-_}
-use Rattle.bdf.specs.Table.{IsTable}
+use Rattle.bdf_lines.specs.Table.{IsTable}
 use Rattle.bdf.specs.Walk.{Carries, rowsRead}
 use Rattle.bdf.proofs.Steps.{width-small}
 use Rattle.bdf.proofs.file.put_rows.Statement.{statement}
