@@ -49,10 +49,10 @@ extern "C" {
  * reply is another. MINOR rises when something is added, and PATCH when no declaration and no reply changes. What a sheet of edition 1
  * means, and so its page, is the same in every version; another meaning would be another edition.
  */
-#define STATION_VERSION_MAJOR 1
-#define STATION_VERSION_MINOR 1
+#define STATION_VERSION_MAJOR 2
+#define STATION_VERSION_MINOR 0
 #define STATION_VERSION_PATCH 0
-#define STATION_VERSION "1.1.0"
+#define STATION_VERSION "2.0.0"
 
 /* The most bytes that a sheet, a frame, a page, a slot and with it a text can have; a style has always as many. */
 #define STATION_MOST_SHEET 65536
@@ -121,11 +121,18 @@ enum station_code {
     STATION_REFUSED_BDF_ENCODING = 21
 };
 
-/* A code and a value: an index, yes or no as 1 or 0, or a length. */
+/* A code and a value: yes or no as 1 or 0, or a length. */
 typedef struct {
     uint32_t code;
     uint32_t value;
 } station_number;
+
+/* A code and a character's glyph in a font: its index, and whether the mapping lists the character, as 1 or 0. */
+typedef struct {
+    uint32_t code;
+    uint32_t index;
+    uint32_t listed;
+} station_glyph;
 
 /* A code and a position on the frame, which may lie off it. */
 typedef struct {
@@ -133,6 +140,14 @@ typedef struct {
     int32_t x;
     int32_t y;
 } station_position;
+
+/* A code, a position on the frame, which may lie off it, and how many characters the font's replacement stood in for. */
+typedef struct {
+    uint32_t code;
+    int32_t x;
+    int32_t y;
+    uint32_t replaced;
+} station_drawn;
 
 /* A code and a rectangle: left <= column < left + width, top <= row < top + height. */
 typedef struct {
@@ -158,11 +173,12 @@ typedef struct {
 uint32_t station_check(const uint8_t *sheet, size_t sheet_length);
 
 /*
- * value: the index of a character's glyph in a font; the font's replacement index for a character that its mapping does not list, and for a
- * number that is no character. The index may lie past the atlas; nothing is drawn for it then.
+ * index: that of a character's glyph in a font; the font's replacement index for a character that its mapping does not list, and for a
+ * number that is no character. It may lie past the atlas; nothing is drawn for it then. listed: 1 if the mapping lists the character, else 0;
+ * a listed character may have the replacement's index, and listed is 1 for it.
  * Refusals: STATION_REFUSED_NO_SUCH for the font.
  */
-station_number station_index(const uint8_t *sheet, size_t sheet_length, uint32_t font, uint32_t character);
+station_glyph station_index(const uint8_t *sheet, size_t sheet_length, uint32_t font, uint32_t character);
 
 /*
  * value: 1 if a font's mapping lists a character, else 0; 0 for a number that is no character.
@@ -185,10 +201,12 @@ station_box station_bounding_box(const uint8_t *sheet, size_t sheet_length, uint
 uint32_t station_draw(const uint8_t *sheet, size_t sheet_length, uint8_t *frame, size_t frame_length);
 
 /*
- * Draws one item over what the frame holds. The reply is the next position: behind the text's last line.
+ * Draws one item over what the frame holds. x and y: the next position, behind the text's last line. replaced: how many characters of its
+ * lines the font's mapping does not list, a repeat each time; the one 0D that is dropped at a line's end does not count. It is the same
+ * where nothing is painted, and where the item lies off the frame.
  * Refusals: STATION_REFUSED_FRAME_LENGTH, STATION_REFUSED_NO_SUCH.
  */
-station_position station_draw_item(const uint8_t *sheet, size_t sheet_length, uint8_t *frame, size_t frame_length, uint32_t item);
+station_drawn station_draw_item(const uint8_t *sheet, size_t sheet_length, uint8_t *frame, size_t frame_length, uint32_t item);
 
 /*
  * Draws whitespace of a width in pixels at an item's place, in its style and baseline: background and decorations. The reply is the next

@@ -78,31 +78,37 @@ u16_at() {
   od -An -tu2 --endian=little -j "$1" -N 2 "$list" | tr -d ' '
 }
 
-# Where the reply of the list's first call stands.
-first_reply() {
-  local frame=$((14 + $(u16_at 12)))
-  local call=$((frame + 2 + $(u16_at "$frame") + 4))
-  echo $((call + 15 + $(u16_at $((call + 13)))))
+# reply_of CALL: where the reply of a call of the list's first case stands.
+reply_of() {
+  local frame=$((14 + $(u16_at 12))) at call part
+  at=$((frame + 2 + $(u16_at "$frame") + 4))
+  for ((call = 1; call < $1; call++)); do
+    at=$((at + 35 + $(u16_at $((at + 13)))))
+    for part in sheet frame output; do
+      at=$((at + 4 + $(u16_at $((at + 2)))))
+    done
+  done
+  echo $((at + 15 + $(u16_at $((at + 13)))))
 }
 
-# notice_changed OFFSET WORD: that a changed byte of the list gives one difference, of this kind.
+# notice_changed CALL KIND OFFSET WORD: that a changed byte of the first case gives one difference, in this part of this call.
 notice_changed() {
-  local changed=$log/changed_list byte
+  local changed=$log/changed_list at byte
+  at=$(($(reply_of "$1") + $3))
   cp "$list" "$changed" || return
-  byte=$(od -An -tu1 -j "$1" -N 1 "$list") || return
+  byte=$(od -An -tu1 -j "$at" -N 1 "$list") || return
   printf '%b' "\\x$(printf %02x $((byte ^ 1)))" |
-    dd of="$changed" bs=1 seek="$1" conv=notrunc status=none || return
+    dd of="$changed" bs=1 seek="$at" conv=notrunc status=none || return
   target/bin/oracle_list < "$changed" | tee "$log/replay"
-  grep -qx "difference: case 1, call 1, kind 4: $2" "$log/replay" &&
+  grep -qx "difference: case 1, call $1, kind $2: $4" "$log/replay" &&
     grep -qx 'differences 1' "$log/replay"
 }
 
-# The first call draws: no byte of the sheet is changed, and some of the frame's are.
+# The first call draws an item, which changes no byte of the sheet and some of the frame; the ninth asks for an index. Changed are a code, how
+# many characters are replaced, a grey, and whether a character is listed.
 notice_changed_bytes() {
-  local reply
   target/bin/oracle_list < "$list" | cmp - crates/oracle_list/stdout || return
-  reply=$(first_reply)
-  notice_changed "$reply" reply && notice_changed $((reply + 28)) frame
+  notice_changed 1 4 0 reply && notice_changed 1 4 12 reply && notice_changed 1 4 28 frame && notice_changed 9 1 8 reply
 }
 
 notice_cut() {

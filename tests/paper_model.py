@@ -203,6 +203,16 @@ def bounding_box_of(item):
     return join([(x, top, measured_width(item.font, len(line)), height) for line, x, y, top in lines_of(item)]) or (item.x, item.y, 0, 0)
 
 
+# ---- Replaced characters
+
+def is_listed(font, ch):
+    return place(font, ch) is not None
+
+
+def replaced(item):
+    return sum(not is_listed(item.font, ch) for line, *_ in lines_of(item) for ch in line)
+
+
 # ---- Sheet
 
 Font = namedtuple("Font", "atlas mapping replacement atlas_width cw ch s baseline strikethrough underline")
@@ -483,12 +493,15 @@ def check(b):
 
 def index_call(b, font, character):
     code = code_of(b, font=font)
-    return (code, 0) if code else (0, index(font_at(bytes(b), font), character))
+    if code:
+        return code, 0, 0
+    font = font_at(bytes(b), font)
+    return 0, index(font, character), int(is_listed(font, character))
 
 
 def contains(b, font, character):
     code = code_of(b, font=font)
-    return (code, 0) if code else (0, int(place(font_at(bytes(b), font), character) is not None))
+    return (code, 0) if code else (0, int(is_listed(font_at(bytes(b), font), character)))
 
 
 def bounding_box(b, n):
@@ -498,7 +511,7 @@ def bounding_box(b, n):
 
 def draw_item(b, frame, n):
     code = code_of(b, frame, item=n)
-    return (code, 0, 0) if code else (0, *draw_text(canvas_of(b, frame), item_at(b, n)))
+    return (code, 0, 0, 0) if code else (0, *draw_text(canvas_of(b, frame), item_at(b, n)), replaced(item_at(b, n)))
 
 
 def draw_whitespace(b, frame, n, width):

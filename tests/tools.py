@@ -2,10 +2,11 @@
 
 Usage: python3 tests/tools.py CHECK ITEMS
 
-CHECK is the program of tests/host/check.c: it answers station_check for many sheets. ITEMS is that of tests/host/items.c: it measures a
-sheet's items. Prints 'ok NAME' or 'FAILED NAME: why' for each test; the exit status is 1 if one failed.
+CHECK is the program of tests/host/check.c: it answers station_check for many sheets. ITEMS is that of tests/host/items.c: it measures and
+draws a sheet's items. Prints 'ok NAME' or 'FAILED NAME: why' for each test; the exit status is 1 if one failed.
 """
 import os
+import random
 import re
 import shutil
 import signal
@@ -22,9 +23,13 @@ import explained
 import gate
 import guide
 import must_fail
+import paper_model
 import stored_sheets
 import wrong_inputs
-from station_sheet import layout
+from station_sheet import layout, show
+
+
+SEED = 4127
 
 
 def page_of(sheet):
@@ -104,7 +109,37 @@ def test_show_without_program(folder):
     (folder / "station_items").write_text("#!/bin/sh\necho 0 1 2 3\n", encoding="ascii")
     (folder / "station_items").chmod(0o755)
     with programs_of(folder):
-        expect_error(sheet_tool("show", ROOT / "samples/greek.sheet"), 2, "something else than seven numbers")
+        expect_error(sheet_tool("show", ROOT / "samples/greek.sheet"), 2, "something else than eight numbers")
+
+
+def with_texts(sheet, chance):
+    """A sheet whose items have random texts: characters of the samples' fonts, others, and returns and feeds anywhere."""
+    edited = bytearray(sheet)
+    for k in range(stored_sheets.number(sheet, 8, 2)):
+        text = "".join(chance.choices("Am 2.\r\r\n°↑λ☂☀≈é\0\ud7ff\U0010ffffßçñøåœđłπ", k=chance.choice((1, 3, 8, 30))))
+        paper_model.set_text(edited, None, k, text.encode("utf-8"))
+    return bytes(edited)
+
+
+def test_show_not_listed(_):
+    """The characters that are shown as not listed, by a model of the paper, and the exported call's number of them."""
+    chance, shown, longest, items = random.Random(SEED), 0, 0, 0
+    for path in SAMPLES * 6:
+        sheet = with_texts(path.with_suffix(".sheet").read_bytes(), chance)
+        measured = [[int(word) for word in line.split()][1:] for line in measured_by_host(sheet).splitlines()]
+        expected = []
+        for k, row in enumerate(measured):
+            item = paper_model.item_at(sheet, k)
+            missing = [ch for line, *_ in paper_model.lines_of(item) for ch in line if not paper_model.is_listed(item.font, ch)]
+            same(f"{path.stem}, item {k}: replaced", row[6], len(missing))
+            names = [layout.code_point(ch) for ch in dict.fromkeys(missing)]
+            more = f" and {len(names) - 12} more" if len(names) > 12 else ""
+            expected += [f"    not listed: {', '.join(names[:12])}{more}"] if names else []
+            longest = max(longest, len(names))
+        same(path.stem, [line for line in show.show(sheet, None, measured) if "not listed" in line], expected)
+        shown, items = shown + len(expected), items + len(measured)
+    same("items with and without such characters, and with many", (items > shown > 300, items - shown > 50, longest > 12), (True, True, True))
+    return f"{shown} items of {items}, seed {SEED}"
 
 
 def test_station_items(_):
@@ -240,7 +275,8 @@ DESCRIPTION_ERRORS = [
     ("text_grey = 0", "text = 5", "'text' is no key"), ('style = "label"', 'style = "titel"', "no style 'titel'"), ("x = 1", "", "'x' is missing"),
     ("x = 1", "x = 40000", "from -32768 to 32767"), ('text = "level"', "", "'text' is missing"),
     ('text = "level"', 'text = "level 2.31"', "10 bytes, and its slot 8"),
-    ('text = "level"', 'text = "Stufe é"', "no glyph for U+00E9"), ('text = "level"', 'lines = "level"', "'lines' is a list"),
+    ('text = "level"', 'text = "Stufe é"', "no glyph for U+00E9"), ('text = "level"', r'text = "le\rvel"', "no glyph for U+000D"),
+    ('text = "level"', r'text = "level\r\r"', "no glyph for U+000D"), ('text = "level"', 'lines = "level"', "'lines' is a list"),
     ("slot = 8", "slot = 257", "from 0 to 256"), ("slot = 8", "slot = 8\nfont = \"large\"", "no font 'large'"),
     ("slot = 8", 'slot = 8\nalignment = "middle"', "left, centre, right"), ("slot = 8", 'slot = 8\nbaseline = "low"', "top, bottom, middle, alphabetic"),
     ("slot = 8", 'slot = 8\nline_height = "12"', "line_height"), ("slot = 8", "slot = 8\nline_height = 1001", "from 0 to 1000"),
@@ -262,6 +298,8 @@ def test_errors_of_new(folder):
     description, out = folder / "a.toml", folder / "a.sheet"
     description.write_text(good, encoding="utf-8")
     same("the good description", sheet_tool("new", description, out).status, 0)
+    description.write_text(good.replace('text = "level"', r'lines = ["le\r", "vel\r"]'), encoding="utf-8")
+    same("a return at each line's end", sheet_tool("new", description, out).status, 0)
     out.unlink()
     for old, new, words in DESCRIPTION_ERRORS:
         description.write_text(GOOD.replace(old, new, 1).replace("FONT", str(ROOT / "samples/fonts/plain-6x10.txt")), encoding="utf-8")

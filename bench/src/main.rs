@@ -209,7 +209,7 @@ fn index(station: &dyn Station, name: &str, model: &SheetModel, character: char)
     let mapping = glyph_mapping(&sheet, &Font::read(&sheet, 0));
     let expected = mapping.index(character) as u32;
     let found = station.index(&sheet, 0, character as u32);
-    assert_eq!((found.code, found.value), (0, expected));
+    assert_eq!((found.code, found.index, found.listed), (0, expected, 1));
     let [indexed, checked, crates] = best([
         &mut || {
             black_box(station.index(black_box(&sheet), 0, black_box(character as u32)));

@@ -1,5 +1,6 @@
 /*
- * A logger's main: checks a sheet, draws its page, stores new readings, tells which rectangle would be radioed, and writes the page.
+ * A logger's main: checks a sheet, draws its page, stores new readings, tells how many of their characters the font lacks and which rectangle
+ * would be radioed, and writes the page.
  *
  *     logger SHEET PAGE
  *
@@ -12,8 +13,8 @@
 #include <stdio.h>
 #include <string.h>
 
-#if STATION_VERSION_MAJOR != 1
-#error "this logger was written for version 1 of the library"
+#if STATION_VERSION_MAJOR != 2
+#error "this logger was written for version 2 of the library"
 #endif
 
 enum { PIXELS = HYDROGRAPH_WIDTH * HYDROGRAPH_HEIGHT };
@@ -21,6 +22,7 @@ enum { PIXELS = HYDROGRAPH_WIDTH * HYDROGRAPH_HEIGHT };
 static uint8_t sheet[STATION_MOST_SHEET + 1];
 static size_t length;
 static uint8_t frame[PIXELS];
+static uint8_t spare[PIXELS];
 static uint8_t ashore[PIXELS];
 static uint8_t page[STATION_MOST_PAGE];
 
@@ -88,7 +90,10 @@ static unsigned count_characters(const char *text)
     return count;
 }
 
-/* Gives the stage's item a new text, and says what the call replied; a rectangle is radioed. Gives the reply's code. */
+/*
+ * Gives the stage's item a new text, radios its rectangle, and says what the calls replied. The item is drawn by itself on a spare frame, which
+ * tells how many of its characters the font lacks; the page keeps its greys. Gives the first code that is no STATION_OK.
+ */
 static uint32_t set_stage(const char *text)
 {
     station_box area = station_set_text(sheet, length, frame, PIXELS, HYDROGRAPH_ITEM_STAGE, (const uint8_t *)text, strlen(text));
@@ -97,8 +102,13 @@ static uint32_t set_stage(const char *text)
                (unsigned)area.code);
         return area.code;
     }
-    printf("new reading '%s', %u characters: left %d, top %d, width %u, height %u\n", text, count_characters(text), (int)area.left,
-           (int)area.top, (unsigned)area.width, (unsigned)area.height);
+    station_drawn drawn = station_draw_item(sheet, length, spare, PIXELS, HYDROGRAPH_ITEM_STAGE);
+    if (drawn.code != STATION_OK) {
+        say_refused("new reading, drawn by itself", drawn.code);
+        return drawn.code;
+    }
+    printf("new reading '%s', %u characters of which the font lacks %u: left %d, top %d, width %u, height %u\n", text, count_characters(text),
+           (unsigned)drawn.replaced, (int)area.left, (int)area.top, (unsigned)area.width, (unsigned)area.height);
     send_rectangle(area);
     printf("radio: %u greys of %u\n", (unsigned)(area.width * area.height), (unsigned)PIXELS);
     return STATION_OK;
@@ -132,6 +142,11 @@ int main(int count, char **arguments)
     printf("page: %u by %u, drawn\n", (unsigned)HYDROGRAPH_WIDTH, (unsigned)HYDROGRAPH_HEIGHT);
     memcpy(ashore, frame, sizeof frame);
 
+    /* The font lacks the first sign of this reading, and has a hyphen in its place, which reads as a minus sign. The next reading is good. */
+    code = set_stage("\xE2\x89\x88" "2.35 m");
+    if (code != STATION_OK) {
+        return 1;
+    }
     code = set_stage("2.347 m");
     if (code != STATION_OK) {
         return 1;

@@ -4,7 +4,7 @@ use crate::characters::decode;
 use crate::check::check;
 use crate::edits::{damage, make, refusal, Rect};
 use crate::fields::Header;
-use crate::reply::{Area, Edit, Number, Position, Station, Step};
+use crate::reply::{Area, Drawn, Edit, Glyph, Number, Position, Station, Step};
 
 /// Who paints and measures on an accepted sheet and a frame of its size.
 pub trait Painter {
@@ -28,6 +28,8 @@ pub trait Painter {
     fn index(&self, sheet: &[u8], font: usize, character: u32) -> u32;
     /// Whether a character is listed.
     fn contains(&self, sheet: &[u8], font: usize, character: u32) -> bool;
+    /// How many characters of an item's lines are not listed.
+    fn replaced(&self, sheet: &[u8], item: usize) -> u32;
 }
 
 /// The calls over a painter. "Tests 1 to 5 first; .. then the call's own, rising."
@@ -64,25 +66,14 @@ pub fn page_header(width: u32, height: u32) -> Vec<u8> {
     format!("P5\n{width} {height}\n255\n").into_bytes()
 }
 
-impl<P: Painter> Calls<P> {
-    fn position(
-        &self,
-        sheet: &[u8],
-        frame: &mut [u8],
-        item: u32,
-        width: Option<u32>,
-    ) -> Result<(i32, i32), u32> {
-        let header = accepted(sheet)?;
-        framed(&header, frame)?;
-        let item = numbered(item, header.items)?;
-        match width {
-            None => Ok(self.0.draw_item(sheet, frame, item)),
-            // 18: "whitespace above 65,535".
-            Some(width) if width > 65_535 => Err(18),
-            Some(width) => Ok(self.0.draw_whitespace(sheet, frame, item, width)),
-        }
-    }
+// The check, 11, then 12 for an item; the item's number.
+fn drawable(sheet: &[u8], frame: &[u8], item: u32) -> Result<usize, u32> {
+    let header = accepted(sheet)?;
+    framed(&header, frame)?;
+    numbered(item, header.items)
+}
 
+impl<P: Painter> Calls<P> {
     fn edited(
         &self,
         sheet: &mut [u8],
@@ -129,13 +120,6 @@ fn number(answer: Result<u32, u32>) -> Number {
     }
 }
 
-fn position(answer: Result<(i32, i32), u32>) -> Position {
-    match answer {
-        Ok((x, y)) => Position { code: 0, x, y },
-        Err(code) => Position::refused(code),
-    }
-}
-
 fn area(answer: Result<Rect, u32>) -> Area {
     match answer {
         Ok(rect) => Area {
@@ -154,11 +138,17 @@ impl<P: Painter> Station for Calls<P> {
         check(sheet)
     }
 
-    fn index(&self, sheet: &[u8], font: u32, character: u32) -> Number {
-        number(accepted(sheet).and_then(|header| {
-            let font = numbered(font, header.fonts)?;
-            Ok(self.0.index(sheet, font, character))
-        }))
+    // "The glyph lookup, and with it the `index` call, must also say whether the character was
+    // listed."
+    fn index(&self, sheet: &[u8], font: u32, character: u32) -> Glyph {
+        match accepted(sheet).and_then(|header| numbered(font, header.fonts)) {
+            Ok(font) => Glyph {
+                code: 0,
+                index: self.0.index(sheet, font, character),
+                listed: u32::from(self.0.contains(sheet, font, character)),
+            },
+            Err(code) => Glyph::refused(code),
+        }
     }
 
     fn contains(&self, sheet: &[u8], font: u32, character: u32) -> Number {
@@ -175,12 +165,33 @@ impl<P: Painter> Station for Calls<P> {
         }))
     }
 
-    fn draw_item(&self, sheet: &[u8], frame: &mut [u8], item: u32) -> Position {
-        position(self.position(sheet, frame, item, None))
+    // "Drawing an item returns, beside the next position, how many characters of its lines, after
+    // the 0D is dropped, were not listed."
+    fn draw_item(&self, sheet: &[u8], frame: &mut [u8], item: u32) -> Drawn {
+        match drawable(sheet, frame, item) {
+            Ok(item) => {
+                let (x, y) = self.0.draw_item(sheet, frame, item);
+                Drawn {
+                    code: 0,
+                    x,
+                    y,
+                    replaced: self.0.replaced(sheet, item),
+                }
+            }
+            Err(code) => Drawn::refused(code),
+        }
     }
 
     fn draw_whitespace(&self, sheet: &[u8], frame: &mut [u8], item: u32, width: u32) -> Position {
-        position(self.position(sheet, frame, item, Some(width)))
+        match drawable(sheet, frame, item) {
+            // 18: "whitespace above 65,535".
+            Ok(_) if width > 65_535 => Position::refused(18),
+            Ok(item) => {
+                let (x, y) = self.0.draw_whitespace(sheet, frame, item, width);
+                Position { code: 0, x, y }
+            }
+            Err(code) => Position::refused(code),
+        }
     }
 
     fn draw(&self, sheet: &[u8], frame: &mut [u8]) -> u32 {

@@ -1,10 +1,10 @@
 //! Answers for an accepted sheet on standard input, from the crate's own code:
 //!
 //!     driver page                    the page
-//!     driver item ITEM FRAME         'x y' and a feed, then the greys of the file FRAME painted
-//!     driver whitespace ITEM V FRAME the same for whitespace of width V
+//!     driver item ITEM FRAME         'x y replaced', a feed and the greys of the file FRAME painted
+//!     driver whitespace ITEM V FRAME the same for whitespace of width V, without replaced
 //!     driver box ITEM                'left top width height'
-//!     driver index FONT NUMBER       the index
+//!     driver index FONT NUMBER       'index listed', the second 1 or 0
 //!     driver contains FONT NUMBER    1 or 0
 //!     driver time                    nanoseconds of a page, best of several
 //!     driver marked                  the marked lines of docs/SHEET.md; reads nothing
@@ -52,13 +52,11 @@ fn unless_refused(code: u32, answer: String) -> Result<Vec<u8>, u32> {
     }
 }
 
-fn painted(
-    frame: &str,
-    paint: impl FnOnce(&mut [u8]) -> oracle::reply::Position,
-) -> Result<Vec<u8>, u32> {
+// The code and the line of what is painted on the greys of a file, then those greys.
+fn painted(frame: &str, paint: impl FnOnce(&mut [u8]) -> (u32, String)) -> Result<Vec<u8>, u32> {
     let mut greys = std::fs::read(frame).expect("the file of greys");
-    let next = paint(&mut greys);
-    let mut answer = unless_refused(next.code, format!("{} {}\n", next.x, next.y))?;
+    let (code, line) = paint(&mut greys);
+    let mut answer = unless_refused(code, line)?;
     answer.extend_from_slice(&greys);
     Ok(answer)
 }
@@ -70,11 +68,14 @@ fn number(word: &str) -> u32 {
 fn answer(words: &[&str], sheet: &[u8]) -> Result<Vec<u8>, u32> {
     match words {
         ["page"] => page(sheet),
-        ["item", item, frame] => {
-            painted(frame, |greys| ORACLE.draw_item(sheet, greys, number(item)))
-        }
+        ["item", item, frame] => painted(frame, |greys| {
+            let drawn = ORACLE.draw_item(sheet, greys, number(item));
+            let line = format!("{} {} {}\n", drawn.x, drawn.y, drawn.replaced);
+            (drawn.code, line)
+        }),
         ["whitespace", item, width, frame] => painted(frame, |greys| {
-            ORACLE.draw_whitespace(sheet, greys, number(item), number(width))
+            let next = ORACLE.draw_whitespace(sheet, greys, number(item), number(width));
+            (next.code, format!("{} {}\n", next.x, next.y))
         }),
         ["box", item] => {
             let area = ORACLE.bounding_box(sheet, number(item));
@@ -83,8 +84,8 @@ fn answer(words: &[&str], sheet: &[u8]) -> Result<Vec<u8>, u32> {
             unless_refused(area.code, format!("{left} {top} {width} {height}\n"))
         }
         ["index", font, character] => {
-            let index = ORACLE.index(sheet, number(font), number(character));
-            unless_refused(index.code, format!("{}\n", index.value))
+            let glyph = ORACLE.index(sheet, number(font), number(character));
+            unless_refused(glyph.code, format!("{} {}\n", glyph.index, glyph.listed))
         }
         ["contains", font, character] => {
             let contains = ORACLE.contains(sheet, number(font), number(character));

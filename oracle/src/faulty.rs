@@ -7,7 +7,7 @@ use crate::edits::{damage, Rect};
 use crate::fields::{Font, Header, Item};
 use crate::model::{FontModel, ItemModel, SheetModel};
 use crate::plain::Plain;
-use crate::reply::{Area, Edit, Number, Position, Station, Step};
+use crate::reply::{Area, Drawn, Edit, Glyph, Number, Position, Station, Step};
 
 macro_rules! faults {
     ($($(#[$note:meta])* $name:ident,)*) => {
@@ -44,6 +44,17 @@ faults! {
     SurrogatesCounted,
     LastPositionAsIndex,
     RangeFromZeroStops,
+    EveryCharacterListed,
+    ReplacementIndexNotListed,
+    EveryCharacterReplaced,
+    ReplacementIndexReplaced,
+    MissingGlyphReplaced,
+    RepeatReplacedOnce,
+    FirstLineReplacedAlone,
+    DroppedReturnReplaced,
+    NoReturnReplaced,
+    NothingReplacedUnpainted,
+    NothingReplacedOffTheFrame,
     SpareAtlasRowCounted,
     SlotTailNotChecked,
     TextBeforeSlotTail,
@@ -69,6 +80,26 @@ fn without_returns(text: &[u8]) -> Vec<u8> {
         .map(|line| line.strip_suffix(b"\r").unwrap_or(line))
         .collect();
     lines.join(&b'\n')
+}
+
+/// The characters of lines whose returns are dropped.
+fn characters(lines: &[u8]) -> impl Iterator<Item = char> {
+    let text = String::from_utf8_lossy(lines).replace('\n', "");
+    text.chars().collect::<Vec<char>>().into_iter()
+}
+
+fn is_unpainted(item: &Item) -> bool {
+    item.text_mode + item.background_mode == 0
+}
+
+/// Whether the atlas has a glyph at an index.
+fn has_glyph(font: &Font, sheet: &[u8], index: u32) -> bool {
+    let (cw, ch) = (font.character_width, font.character_height);
+    if cw == 0 || ch == 0 || font.atlas_width < cw {
+        return false;
+    }
+    let rows = font.atlas(sheet).len() as u32 / font.atlas_width.div_ceil(8);
+    index / (font.atlas_width / cw) * ch + ch <= rows
 }
 
 impl Faulty {
@@ -148,25 +179,60 @@ impl Faulty {
         )
     }
 
-    fn next(&self, sheet: &[u8], item: u32, mut next: Position) -> Position {
-        if next.code != 0 {
-            return next;
-        }
-        let item = Item::read(sheet, item as usize);
+    // The next x that is replied by mistake.
+    fn next_x(&self, sheet: &[u8], item: &Item, x: i32) -> i32 {
         let font = Font::read(sheet, item.font as usize);
         let text = item.text(sheet);
         let last = text.rsplit(|byte| *byte == b'\n').next().unwrap_or(text);
         match self.0 {
-            Fault::NextPositionIn16Bits => next.x = i32::from(next.x as i16),
-            Fault::CentreRoundedDown if item.alignment == 1 && last.is_empty() => next.x += 1,
-            Fault::TrailingSpacingLeftOut
-                if item.text_mode + item.background_mode == 0 && next.x != item.x =>
-            {
-                next.x -= font.spacing as i32;
+            Fault::NextPositionIn16Bits => i32::from(x as i16),
+            Fault::CentreRoundedDown if item.alignment == 1 && last.is_empty() => x + 1,
+            Fault::TrailingSpacingLeftOut if is_unpainted(item) && x != item.x => {
+                x - font.spacing as i32
             }
-            _ => {}
+            _ => x,
         }
-        next
+    }
+
+    // How many characters are counted by mistake.
+    fn replaced(&self, sheet: &[u8], number: usize, item: &Item, good: u32) -> u32 {
+        let font = Font::read(sheet, item.font as usize);
+        let index = |ch: &char| Plain.index(sheet, item.font as usize, *ch as u32);
+        let is_listed = |ch: &char| Plain.contains(sheet, item.font as usize, *ch as u32);
+        let unlisted = |bytes: &[u8]| characters(bytes).filter(|ch| !is_listed(ch)).collect();
+        let dropped = without_returns(item.text(sheet));
+        let counted: Vec<char> = match self.0 {
+            Fault::EveryCharacterReplaced => characters(&dropped).collect(),
+            Fault::ReplacementIndexReplaced => characters(&dropped)
+                .filter(|ch| index(ch) == font.replacement)
+                .collect(),
+            Fault::MissingGlyphReplaced => characters(&dropped)
+                .filter(|ch| !is_listed(ch) || !has_glyph(&font, sheet, index(ch)))
+                .collect(),
+            Fault::RepeatReplacedOnce => {
+                let mut once: Vec<char> = unlisted(&dropped);
+                once.sort_unstable();
+                once.dedup();
+                once
+            }
+            Fault::FirstLineReplacedAlone => {
+                unlisted(dropped.split(|byte| *byte == b'\n').next().unwrap_or(&[]))
+            }
+            Fault::DroppedReturnReplaced => unlisted(item.text(sheet)),
+            Fault::NoReturnReplaced => {
+                let mut kept = dropped;
+                kept.retain(|byte| *byte != b'\r');
+                unlisted(&kept)
+            }
+            Fault::NothingReplacedUnpainted if is_unpainted(item) => Vec::new(),
+            Fault::NothingReplacedOffTheFrame
+                if damage(Plain.ink_box(sheet, number), None, &Header::read(sheet)).width == 0 =>
+            {
+                Vec::new()
+            }
+            _ => return good,
+        };
+        counted.len() as u32
     }
 
     // The rectangle that is reported by mistake, from the sheets before and after an edit.
@@ -293,22 +359,26 @@ impl Station for Faulty {
         self.checked(sheet)
     }
 
-    fn index(&self, sheet: &[u8], font: u32, character: u32) -> Number {
-        let mut index = GOOD.index(sheet, font, character);
-        let listed = GOOD.contains(sheet, font, character).value == 1;
-        if index.code != 0 || !listed {
-            return index;
+    fn index(&self, sheet: &[u8], font: u32, character: u32) -> Glyph {
+        let mut glyph = GOOD.index(sheet, font, character);
+        if glyph.code != 0 {
+            return glyph;
         }
         let record = Font::read(sheet, font as usize);
         match self.0 {
+            Fault::EveryCharacterListed => glyph.listed = 1,
+            Fault::ReplacementIndexNotListed => {
+                glyph.listed = u32::from(glyph.index != record.replacement);
+            }
+            _ if glyph.listed == 0 => {}
             Fault::SurrogatesCounted if character > 0xdfff && record.mapping(sheet)[0] == 0 => {
-                index.value += 2_048;
+                glyph.index += 2_048;
             }
             Fault::LastPositionAsIndex => {
                 let text = String::from_utf8_lossy(record.mapping(sheet)).into_owned();
                 if !text.contains('\0') {
                     let last = text.chars().rev().position(|c| c as u32 == character);
-                    index.value = (text.chars().count() - 1 - last.unwrap_or(0)) as u32;
+                    glyph.index = (text.chars().count() - 1 - last.unwrap_or(0)) as u32;
                 }
             }
             Fault::RangeFromZeroStops => {
@@ -318,7 +388,7 @@ impl Station for Faulty {
             }
             _ => {}
         }
-        index
+        glyph
     }
 
     fn contains(&self, sheet: &[u8], font: u32, character: u32) -> Number {
@@ -333,19 +403,24 @@ impl Station for Faulty {
         area
     }
 
-    fn draw_item(&self, sheet: &[u8], frame: &mut [u8], item: u32) -> Position {
-        let next =
-            if self.is_drawing() && GOOD.draw_item(sheet, &mut frame.to_vec(), item).code == 0 {
-                let drawn = self.drawn(sheet);
-                let (x, y) = Plain.draw_item(&drawn, frame, item as usize);
-                Position { code: 0, x, y }
-            } else {
-                GOOD.draw_item(sheet, frame, item)
-            };
-        if self.0 == Fault::FrameTouchedWhenRefused && next.code == 12 {
+    fn draw_item(&self, sheet: &[u8], frame: &mut [u8], item: u32) -> Drawn {
+        let number = item as usize;
+        let before = frame.to_vec();
+        let mut drawn = GOOD.draw_item(sheet, frame, item);
+        if self.0 == Fault::FrameTouchedWhenRefused && drawn.code == 12 {
             frame[0] ^= 1;
         }
-        self.next(sheet, item, next)
+        if drawn.code != 0 {
+            return drawn;
+        }
+        if self.is_drawing() {
+            frame.copy_from_slice(&before);
+            (drawn.x, drawn.y) = Plain.draw_item(&self.drawn(sheet), frame, number);
+        }
+        let item = Item::read(sheet, number);
+        drawn.x = self.next_x(sheet, &item, drawn.x);
+        drawn.replaced = self.replaced(sheet, number, &item, drawn.replaced);
+        drawn
     }
 
     fn draw_whitespace(&self, sheet: &[u8], frame: &mut [u8], item: u32, width: u32) -> Position {

@@ -1,7 +1,7 @@
 //! Random accepted sheets of every kind.
 
 use crate::characters::push;
-use crate::mappings::{any_character, listed, mapping};
+use crate::mappings::{any_character, beside, listed, mapping};
 use crate::model::{FontModel, ItemModel, SheetModel};
 use crate::random::Random;
 
@@ -163,6 +163,7 @@ pub fn text(random: &mut Random, mapping: &[u8], most: usize) -> Vec<u8> {
         return vec![random.pick(b"\n\rA"); wanted.min(most)];
     }
     let mut text = Vec::new();
+    let mut last = Vec::new();
     for _ in 0..wanted {
         let mut next = Vec::new();
         match random.below(24) {
@@ -174,12 +175,15 @@ pub fn text(random: &mut Random, mapping: &[u8], most: usize) -> Vec<u8> {
             }
             4 => push(&mut next, any_character(random)),
             5 => push(&mut next, '\u{10ffff}'),
+            6 => push(&mut next, beside(random, mapping)),
+            7 | 8 => next.clone_from(&last),
             _ => push(&mut next, listed(random, mapping)),
         }
         if text.len() + next.len() > most {
             break;
         }
         text.extend_from_slice(&next);
+        last = next;
     }
     text
 }

@@ -1,11 +1,11 @@
 //! The exported calls of `libstation.a`, as `crates/station/src/lib.rt` exports them: a slice is a pointer
 //! and then its length.
 
-use oracle::reply::{Area, Edit, Number, Position, Station, Step};
+use oracle::reply::{Area, Drawn, Edit, Glyph, Number, Position, Station, Step};
 
 extern "C" {
     fn station_check(sheet: *const u8, length: usize) -> u32;
-    fn station_index(sheet: *const u8, length: usize, font: u32, character: u32) -> Number;
+    fn station_index(sheet: *const u8, length: usize, font: u32, character: u32) -> Glyph;
     fn station_contains(sheet: *const u8, length: usize, font: u32, character: u32) -> Number;
     fn station_bounding_box(sheet: *const u8, length: usize, item: u32) -> Area;
     fn station_draw_item(
@@ -14,7 +14,7 @@ extern "C" {
         frame: *mut u8,
         frame_length: usize,
         item: u32,
-    ) -> Position;
+    ) -> Drawn;
     fn station_draw_whitespace(
         sheet: *const u8,
         length: usize,
@@ -87,7 +87,7 @@ impl Station for Library {
         unsafe { station_check(sheet.as_ptr(), sheet.len()) }
     }
 
-    fn index(&self, sheet: &[u8], font: u32, character: u32) -> Number {
+    fn index(&self, sheet: &[u8], font: u32, character: u32) -> Glyph {
         unsafe { station_index(sheet.as_ptr(), sheet.len(), font, character) }
     }
 
@@ -99,7 +99,7 @@ impl Station for Library {
         unsafe { station_bounding_box(sheet.as_ptr(), sheet.len(), item) }
     }
 
-    fn draw_item(&self, sheet: &[u8], frame: &mut [u8], item: u32) -> Position {
+    fn draw_item(&self, sheet: &[u8], frame: &mut [u8], item: u32) -> Drawn {
         let (greys, size) = (frame.as_mut_ptr(), frame.len());
         unsafe { station_draw_item(sheet.as_ptr(), sheet.len(), greys, size, item) }
     }

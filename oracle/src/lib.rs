@@ -1,8 +1,8 @@
 //! The oracle of the station sheet: every call of the host, answered a second time.
 //!
-//! Drawing, boxes and glyph choice are those of embedded-graphics 0.8.2, whose listed files are
-//! compiled unchanged (`sheet`). The sheet's layout, its check, the refusals, the edits and the
-//! damage rectangle are not in that crate; they are written here from the rules of docs/SHEET.md alone. `plain`
+//! Drawing, boxes, glyph choice and replaced characters are those of embedded-graphics 0.8.2, whose
+//! listed files are compiled unchanged (`sheet`). The sheet's layout, its check, the refusals, the
+//! edits and the damage rectangle are not in that crate; they are written here from the rules of docs/SHEET.md alone. `plain`
 //! is the drawing by those rules without the crate, so that the two can be held against each other.
 //!
 //! The comparison stands on these: random sheets (`generate`, `mappings`, `malformed`), calls as

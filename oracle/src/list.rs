@@ -20,10 +20,10 @@
 //!
 //!     kind  call                  arguments          reply
 //!      0    check                                    code
-//!      1    index                 font, character    code, value
+//!      1    index                 font, character    code, index, listed
 //!      2    contains              font, character    code, value
 //!      3    bounding_box          item               code, left, top, width, height
-//!      4    draw_item             item               code, x, y
+//!      4    draw_item             item               code, x, y, replaced
 //!      5    draw_whitespace       item, width        code, x, y
 //!      6    draw                                     code
 //!      7    set_text              item               code, left, top, width, height
@@ -75,7 +75,15 @@ fn numbers(reply: &Reply) -> [u32; 5] {
     match *reply {
         Reply::Code(code) => [code, 0, 0, 0, 0],
         Reply::Number(number) => [number.code, number.value, 0, 0, 0],
+        Reply::Glyph(glyph) => [glyph.code, glyph.index, glyph.listed, 0, 0],
         Reply::Position(next) => [next.code, next.x as u32, next.y as u32, 0, 0],
+        Reply::Drawn(drawn) => [
+            drawn.code,
+            drawn.x as u32,
+            drawn.y as u32,
+            drawn.replaced,
+            0,
+        ],
         Reply::Area(area) => [
             area.code,
             area.left as u32,

@@ -129,6 +129,11 @@ pub fn listed(random: &mut Random, mapping: &[u8]) -> char {
     char::from_u32(number).unwrap_or('A')
 }
 
+/// The character after one that a mapping's bytes name: often not listed.
+pub fn beside(random: &mut Random, mapping: &[u8]) -> char {
+    char::from_u32(listed(random, mapping) as u32 + 1).unwrap_or('Z')
+}
+
 /// A number to ask a mapping for: a listed character, a neighbour of one, or no character at all.
 pub fn asked(random: &mut Random, mapping: &[u8]) -> u32 {
     match random.below(8) {

@@ -2,7 +2,7 @@
 //! who answers the calls.
 
 use crate::model::{FontModel, ItemModel, SheetModel};
-use crate::reply::{Edit, Number, Position, Station, Step};
+use crate::reply::{Drawn, Edit, Glyph, Number, Station, Step};
 
 /// The grey of a pixel that a call leaves untouched.
 const UNTOUCHED: u8 = 0xee;
@@ -53,16 +53,25 @@ const TEXT: [u8; 8] = [1, 9, 0, 0, 0, 0, 0, 0];
 /// What is asked, and whether the answer is the expected one.
 pub type Marked = (String, bool);
 
-fn drawn(station: &dyn Station, sheet: &SheetModel, rows: [&str; 4], next: (i32, i32)) -> bool {
+fn drawn(station: &dyn Station, sheet: &SheetModel, rows: [&str; 4], reply: Drawn) -> bool {
     let mut frame = vec![UNTOUCHED; sheet.area()];
-    let position = station.draw_item(&sheet.encode(), &mut frame, 0);
+    let drawn = station.draw_item(&sheet.encode(), &mut frame, 0);
     let expected: Vec<u8> = rows
         .concat()
         .bytes()
         .map(|grey| if grey == b'.' { UNTOUCHED } else { grey - b'0' })
         .collect();
-    let (x, y) = next;
-    position == Position { code: 0, x, y } && frame == expected
+    drawn == reply && frame == expected
+}
+
+/// The reply of an item whose next position lies in row 0.
+fn ends_at(x: i32, replaced: u32) -> Drawn {
+    Drawn {
+        code: 0,
+        x,
+        y: 0,
+        replaced,
+    }
 }
 
 fn next_position(station: &dyn Station, sheet: &SheetModel) -> (i32, i32) {
@@ -76,26 +85,26 @@ fn pixels(station: &dyn Station, marked: &mut Vec<Marked>) {
         station,
         &sample(b"AB", BOTH),
         ["95559...", "59595...", "........", "........"],
-        (5, 0),
+        ends_at(5, 0),
     );
     marked.push(("AB, text 9, background 5".into(), both));
     let background = drawn(
         station,
         &sample(b"AB", [0, 9, 1, 5, 0, 0, 0, 0]),
         [".555....", "5.5.5...", "........", "........"],
-        (5, 0),
+        ends_at(5, 0),
     );
     marked.push(("AB, background 5 only".into(), background));
     let underline = drawn(
         station,
         &sample(b"AB", [0, 0, 0, 0, 2, 7, 0, 0]),
         ["........", "........", "........", "777777.."],
-        (6, 0),
+        ends_at(6, 0),
     );
     marked.push(("neither, own underline 7".into(), underline));
     let mut beyond = sample(b"Z", TEXT);
     beyond.fonts[0].replacement = 2;
-    let nothing = drawn(station, &beyond, ["........"; 4], (2, 0));
+    let nothing = drawn(station, &beyond, ["........"; 4], ends_at(2, 1));
     marked.push(("replacement 2: nothing drawn, advance 2".into(), nothing));
 }
 
@@ -120,24 +129,27 @@ fn positions(station: &dyn Station, marked: &mut Vec<Marked>) {
 }
 
 fn mappings(station: &dyn Station, marked: &mut Vec<Marked>) {
+    let glyph = |index, listed| Glyph {
+        code: 0,
+        index,
+        listed,
+    };
     let sheet = sample(b"", TEXT).encode();
     let z = station.index(&sheet, 0, u32::from('Z'));
-    marked.push(("Z is index 1".into(), z == Number { code: 0, value: 1 }));
-    let mut listed = |mapping: &[u8], character: u32, index: u32, contains: u32| {
+    marked.push(("Z is index 1, not listed".into(), z == glyph(1, 0)));
+    let b = station.index(&sheet, 0, u32::from('B'));
+    marked.push(("B is index 1, listed".into(), b == glyph(1, 1)));
+    let mut listed = |mapping: &[u8], character: u32, index: u32, listed: u32| {
         let mut sheet = sample(b"", TEXT);
         sheet.fonts[0].mapping = mapping.to_vec();
         sheet.fonts[0].replacement = 77;
         let sheet = sheet.encode();
-        let good = station.index(&sheet, 0, character)
-            == Number {
-                code: 0,
-                value: index,
-            }
-            && station.contains(&sheet, 0, character)
-                == Number {
-                    code: 0,
-                    value: contains,
-                };
+        let contains = Number {
+            code: 0,
+            value: listed,
+        };
+        let good = station.index(&sheet, 0, character) == glyph(index, listed)
+            && station.contains(&sheet, 0, character) == contains;
         marked.push((format!("mapping {mapping:02X?}: U+{character:04X}"), good));
     };
     listed(&[0, 0xed, 0x9f, 0xbf, 0xee, 0x80, 0x80], 0xe000, 1, 1);
@@ -145,6 +157,38 @@ fn mappings(station: &dyn Station, marked: &mut Vec<Marked>) {
     listed(&[0, 0x41], 0x41, 77, 0);
     listed(&[0, 0, 0x41], 0x41, 0x41, 1);
     listed(&[0, 0], 0, 77, 0);
+}
+
+fn replaced(station: &dyn Station, marked: &mut Vec<Marked>) {
+    let texts: [(&[u8], &[u8], u32); 9] = [
+        (b"AB", b"AB", 0),
+        (b"AZBZ", b"AB", 2),
+        ("°↑".as_bytes(), b"AB", 2),
+        (b"Z\r", b"AB", 1),
+        (b"Z\r\r", b"AB", 2),
+        (b"Z\r\r", b"A\r", 1),
+        (b"A\rB\n\r\nZ\r", b"AB", 2),
+        (b"AB\nB", b"", 3),
+        (b"\n\r\n", b"", 0),
+    ];
+    for (text, mapping, expected) in texts {
+        let replaced = |style: [u8; 8], x: i16, atlas: &[u8]| {
+            let mut sheet = sample(text, style);
+            sheet.fonts[0].mapping = mapping.to_vec();
+            sheet.fonts[0].atlas = atlas.to_vec();
+            sheet.items[0].x = x;
+            let mut frame = vec![UNTOUCHED; sheet.area()];
+            station.draw_item(&sheet.encode(), &mut frame, 0).replaced
+        };
+        let good = [
+            replaced(BOTH, 0, &[0x90, 0x60]),
+            replaced([0; 8], 0, &[0x90, 0x60]),
+            replaced(BOTH, i16::MIN, &[0x90, 0x60]),
+            replaced(BOTH, 0, &[]),
+        ] == [expected; 4];
+        let name = format!("{text:02X?} in {mapping:02X?}: {expected} replaced");
+        marked.push((name, good));
+    }
 }
 
 fn refusals(station: &dyn Station, marked: &mut Vec<Marked>) {
@@ -236,6 +280,7 @@ pub fn marked_lines(station: &dyn Station) -> Vec<Marked> {
     pixels(station, &mut marked);
     positions(station, &mut marked);
     mappings(station, &mut marked);
+    replaced(station, &mut marked);
     refusals(station, &mut marked);
     page(station, &mut marked);
     walker(station, &mut marked);

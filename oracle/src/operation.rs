@@ -5,7 +5,7 @@ use crate::generate;
 use crate::mappings::asked;
 use crate::model::SheetModel;
 use crate::random::Random;
-use crate::reply::{Area, Edit, Number, Position, Station, Step};
+use crate::reply::{Area, Drawn, Edit, Glyph, Number, Position, Station, Step};
 use std::fmt;
 
 /// A call. The bytes of a text, a style or a line stand in `Operation::data`.
@@ -75,7 +75,9 @@ pub struct Operation {
 pub enum Reply {
     Code(u32),
     Number(Number),
+    Glyph(Glyph),
     Position(Position),
+    Drawn(Drawn),
     Area(Area),
     Step(Step),
 }
@@ -86,7 +88,9 @@ impl Reply {
         match self {
             Self::Code(code) => *code,
             Self::Number(number) => number.code,
+            Self::Glyph(glyph) => glyph.code,
             Self::Position(position) => position.code,
+            Self::Drawn(drawn) => drawn.code,
             Self::Area(area) => area.code,
             Self::Step(step) => step.code,
         }
@@ -112,12 +116,12 @@ impl Call {
         } = lent;
         match self {
             Self::Check => Reply::Code(station.check(sheet)),
-            Self::Index { font, character } => Reply::Number(station.index(sheet, font, character)),
+            Self::Index { font, character } => Reply::Glyph(station.index(sheet, font, character)),
             Self::Contains { font, character } => {
                 Reply::Number(station.contains(sheet, font, character))
             }
             Self::BoundingBox { item } => Reply::Area(station.bounding_box(sheet, item)),
-            Self::DrawItem { item } => Reply::Position(station.draw_item(sheet, frame, item)),
+            Self::DrawItem { item } => Reply::Drawn(station.draw_item(sheet, frame, item)),
             Self::DrawWhitespace { item, width } => {
                 Reply::Position(station.draw_whitespace(sheet, frame, item, width))
             }
@@ -304,20 +308,20 @@ pub fn operation(random: &mut Random, sheet: &SheetModel) -> Operation {
     let font = numbered(random, sheet.fonts.len());
     let mapping = sheet.fonts.get(font as usize).map(|font| &font.mapping[..]);
     let character = asked(random, mapping.unwrap_or(b"A"));
-    let call = match random.below(16) {
+    let call = match random.below(20) {
         0 => Call::Check,
-        1 => Call::Index { font, character },
-        2 => Call::Contains { font, character },
-        3 => Call::BoundingBox { item },
-        4..=6 => Call::DrawItem { item },
-        7 => Call::DrawWhitespace {
+        1..=3 => Call::Index { font, character },
+        4 => Call::Contains { font, character },
+        5 => Call::BoundingBox { item },
+        6..=10 => Call::DrawItem { item },
+        11 => Call::DrawWhitespace {
             item,
             width: whitespace(random),
         },
-        8 => Call::Draw,
-        9 => Call::WritePage,
-        10 => return walk(random, sheet),
-        11 => {
+        12 => Call::Draw,
+        13 => Call::WritePage,
+        14 => return walk(random, sheet),
+        15 => {
             let edit = edit(random, sheet);
             return Operation {
                 call: edit.call.on_sheet(),

@@ -55,7 +55,7 @@ impl Greys<'_> {
     }
 }
 
-/// "`index` gives the first position of the character".
+/// "`index` gives the first position of the character"; none if it is not listed.
 fn place_in(mapping: &[u32], character: u32) -> Option<u32> {
     let mut before = 0;
     let mut rest = mapping;
@@ -367,5 +367,13 @@ impl Painter for Plain {
         let font = Font::read(sheet, font);
         let mapping = decode_all(font.mapping(sheet)).expect("an accepted sheet");
         place_in(&mapping, character).is_some()
+    }
+
+    fn replaced(&self, sheet: &[u8], item: usize) -> u32 {
+        let placed = Placed::new(sheet, item);
+        let lines = placed.lines(sheet).into_iter();
+        let characters = lines.flat_map(|line| line.characters);
+        let unlisted = characters.filter(|ch| place_in(&placed.mapping, *ch).is_none());
+        unlisted.count() as u32
     }
 }

@@ -1,11 +1,20 @@
 //! The calls of the host and their replies, as `include/station.h` has them.
 
-/// A code and a value: an index, yes or no as 1 or 0, or a length.
+/// A code and a value: yes or no as 1 or 0, or a length.
 #[repr(C)]
 #[derive(Debug, Clone, Copy, PartialEq, Eq, Default)]
 pub struct Number {
     pub code: u32,
     pub value: u32,
+}
+
+/// A code, a character's index, and whether it is listed as 1 or 0.
+#[repr(C)]
+#[derive(Debug, Clone, Copy, PartialEq, Eq, Default)]
+pub struct Glyph {
+    pub code: u32,
+    pub index: u32,
+    pub listed: u32,
 }
 
 /// A code and a position.
@@ -15,6 +24,16 @@ pub struct Position {
     pub code: u32,
     pub x: i32,
     pub y: i32,
+}
+
+/// A code, a position, and how many characters are replaced.
+#[repr(C)]
+#[derive(Debug, Clone, Copy, PartialEq, Eq, Default)]
+pub struct Drawn {
+    pub code: u32,
+    pub x: i32,
+    pub y: i32,
+    pub replaced: u32,
 }
 
 /// A code and a rectangle.
@@ -49,10 +68,10 @@ pub enum Edit<'a> {
 /// Who answers the calls: the oracle, the plain drawing of docs/SHEET.md, or the linked library.
 pub trait Station {
     fn check(&self, sheet: &[u8]) -> u32;
-    fn index(&self, sheet: &[u8], font: u32, character: u32) -> Number;
+    fn index(&self, sheet: &[u8], font: u32, character: u32) -> Glyph;
     fn contains(&self, sheet: &[u8], font: u32, character: u32) -> Number;
     fn bounding_box(&self, sheet: &[u8], item: u32) -> Area;
-    fn draw_item(&self, sheet: &[u8], frame: &mut [u8], item: u32) -> Position;
+    fn draw_item(&self, sheet: &[u8], frame: &mut [u8], item: u32) -> Drawn;
     fn draw_whitespace(&self, sheet: &[u8], frame: &mut [u8], item: u32, width: u32) -> Position;
     fn draw(&self, sheet: &[u8], frame: &mut [u8]) -> u32;
     fn edit(&self, sheet: &mut [u8], frame: &mut [u8], item: u32, edit: Edit) -> Area;
@@ -68,10 +87,30 @@ impl Number {
     }
 }
 
+impl Glyph {
+    /// A refused call: its number with zeros.
+    pub fn refused(code: u32) -> Self {
+        Self {
+            code,
+            ..Self::default()
+        }
+    }
+}
+
 impl Position {
     /// A refused call: its number with zeros.
     pub fn refused(code: u32) -> Self {
         Self { code, x: 0, y: 0 }
+    }
+}
+
+impl Drawn {
+    /// A refused call: its number with zeros.
+    pub fn refused(code: u32) -> Self {
+        Self {
+            code,
+            ..Self::default()
+        }
     }
 }
 

@@ -281,4 +281,14 @@ impl Painter for Crate {
         let mapping = glyph_mapping(sheet, &Font::read(sheet, font));
         char::from_u32(character).is_some_and(|character| mapping.contains(character))
     }
+
+    // The crate counts nothing. Its mapping is asked for each character of the lines that
+    // `Text::draw` makes: split at a feed, one return at the end dropped.
+    fn replaced(&self, sheet: &[u8], item: usize) -> u32 {
+        let item = Item::read(sheet, item);
+        let mapping = glyph_mapping(sheet, &Font::read(sheet, item.font as usize));
+        let lines = characters(item.text(sheet)).split('\n');
+        let drawn = lines.flat_map(|line| line.strip_suffix('\r').unwrap_or(line).chars());
+        drawn.filter(|ch| !mapping.contains(*ch)).count() as u32
+    }
 }

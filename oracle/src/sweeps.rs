@@ -120,12 +120,13 @@ fn index_cases() -> impl Iterator<Item = Case> {
 /// One case for each choice of alignment, baseline and modes, with the longest texts in the largest
 /// font at the extreme places.
 fn extreme_cases() -> impl Iterator<Item = Case> {
-    let texts: [Vec<u8>; 6] = [
+    let texts: [Vec<u8>; 7] = [
         vec![b'A'; 256],
         [vec![b'A'; 255], vec![b'\r']].concat(),
         vec![b'\n'; 256],
         [vec![b'\n'; 255], vec![b'A']].concat(),
         b"\r\n".repeat(128),
+        b"Z\r\r\n".repeat(64),
         Vec::new(),
     ];
     let font = FontModel {
@@ -137,16 +138,16 @@ fn extreme_cases() -> impl Iterator<Item = Case> {
         underline: [255, 255],
         ..sample_font()
     };
-    (0..3 * 4 * 12 * 6 * 4).map(move |number| {
-        let text = &texts[number / 144 % 6];
+    (0..3 * 4 * 12 * 7 * 4).map(move |number| {
+        let text = &texts[number / 144 % 7];
         let modes = (number / 12 % 12) as u8;
         let place = |far: bool| if far { i16::MIN } else { i16::MAX };
         let mut item = sample_item(text, [modes & 1, 9, (modes / 2) & 1, 5, modes / 4, 7, 2, 3]);
         item.alignment = (number % 3) as u8;
         item.baseline = (number / 3 % 4) as u8;
         (item.height_kind, item.height_value) = (0, 1_000);
-        item.x = place((number / 864) & 1 == 1);
-        item.y = place((number / 864) & 2 == 2);
+        item.x = place((number / 1_008) & 1 == 1);
+        item.y = place((number / 1_008) & 2 == 2);
         let (x, y) = (i32::from(!item.x), i32::from(!item.y));
         let model = SheetModel {
             width: 512,

@@ -48,9 +48,20 @@ impl Watch for Tally {
                 self.range("box width", area.width as i32);
                 self.range("box height", area.height as i32);
             }
+            Reply::Glyph(glyph) if glyph.code == 0 => {
+                self.count(format!("index: listed {}", glyph.listed));
+            }
             Reply::Position(next) => {
                 self.range("next x", next.x);
                 self.range("next y", next.y);
+            }
+            Reply::Drawn(drawn) => {
+                self.range("next x", drawn.x);
+                self.range("next y", drawn.y);
+                self.range("replaced", drawn.replaced as i32);
+                let unseen = drawn.replaced > 0 && changed == 0;
+                self.count_if(drawn.replaced > 0, "items drawn: replaced");
+                self.count_if(unseen, "items drawn: replaced, no pixel changed");
             }
             _ => {}
         }
@@ -148,6 +159,9 @@ impl Tally {
             text.windows(2).any(|two| two == b"\r\n"),
             "texts: with 0D 0A",
         );
+        let mut lines = text.split(|byte| *byte == b'\n');
+        let keeps = |line: &[u8]| line.strip_suffix(b"\r").unwrap_or(line).contains(&b'\r');
+        self.count_if(lines.any(keeps), "texts: with a 0D that is not dropped");
         self.count_if(text.contains(&0), "texts: with 00");
         self.count_if(
             text.iter().any(|byte| *byte >= 0xf0),

@@ -1,6 +1,7 @@
 /*
- * Reads a sheet from standard input; writes for each item 'N left top width height x y', its measured box and its next position, or
- * 'refused N'. The tests of 'tools/sheet show' take it where target/bin/station_items is not built, and compare the two where it is.
+ * Reads a sheet from standard input; writes for each item 'N left top width height x y replaced', its measured box, its next position and how
+ * many of its characters are replaced, or 'refused N'. The tests of 'tools/sheet show' take it where target/bin/station_items is not built,
+ * and compare the two where it is.
  */
 #include "station.h"
 
@@ -22,12 +23,12 @@ int main(void)
     uint32_t items = (uint32_t)sheet[STATION_AT_ITEMS] | (uint32_t)sheet[STATION_AT_ITEMS + 1] << 8;
     for (uint32_t k = 0; k < items; k++) {
         station_box box = station_bounding_box(sheet, length, k);
-        station_position next = station_draw_item(sheet, length, frame, width * height, k);
-        if (box.code != STATION_OK || next.code != STATION_OK) {
+        station_drawn drawn = station_draw_item(sheet, length, frame, width * height, k);
+        if (box.code != STATION_OK || drawn.code != STATION_OK) {
             return 1;
         }
-        printf("%u %d %d %u %u %d %d\n", (unsigned)k, (int)box.left, (int)box.top, (unsigned)box.width, (unsigned)box.height, (int)next.x,
-               (int)next.y);
+        printf("%u %d %d %u %u %d %d %u\n", (unsigned)k, (int)box.left, (int)box.top, (unsigned)box.width, (unsigned)box.height,
+               (int)drawn.x, (int)drawn.y, (unsigned)drawn.replaced);
     }
     return 0;
 }

@@ -44,11 +44,26 @@ static void number_is(const char *call, station_number r, uint32_t code, uint32_
     same(call, "value", r.value, value);
 }
 
+static void glyph_is(const char *call, station_glyph r, uint32_t code, uint32_t index, uint32_t listed)
+{
+    same(call, "code", r.code, code);
+    same(call, "index", r.index, index);
+    same(call, "listed", r.listed, listed);
+}
+
 static void position_is(const char *call, station_position r, uint32_t code, int32_t x, int32_t y)
 {
     same(call, "code", r.code, code);
     same(call, "x", r.x, x);
     same(call, "y", r.y, y);
+}
+
+static void drawn_is(const char *call, station_drawn r, uint32_t code, int32_t x, int32_t y, uint32_t replaced)
+{
+    same(call, "code", r.code, code);
+    same(call, "x", r.x, x);
+    same(call, "y", r.y, y);
+    same(call, "replaced", r.replaced, replaced);
 }
 
 static void box_is(const char *call, station_box r, uint32_t code, int32_t left, int32_t top, uint32_t width, uint32_t height)
@@ -127,12 +142,17 @@ static void try_questions(void)
 {
     make_sheet();
     same("station_check", "code", station_check(sheet, LENGTH), STATION_OK);
-    number_is("station_index of H", station_index(sheet, LENGTH, 0, 'H'), 0, 7);
-    number_is("station_index of Z", station_index(sheet, LENGTH, 0, 'Z'), 0, 513);
+    glyph_is("station_index of H", station_index(sheet, LENGTH, 0, 'H'), 0, 7, 1);
+    glyph_is("station_index of Z", station_index(sheet, LENGTH, 0, 'Z'), 0, 513, 0);
+    glyph_is("station_index of a surrogate", station_index(sheet, LENGTH, 0, 0xD800), 0, 513, 0);
+    glyph_is("station_index of 110000", station_index(sheet, LENGTH, 0, 0x110000), 0, 513, 0);
     number_is("station_contains H", station_contains(sheet, LENGTH, 0, 'H'), 0, 1);
     number_is("station_contains Z", station_contains(sheet, LENGTH, 0, 'Z'), 0, 0);
     box_is("station_bounding_box of 0", station_bounding_box(sheet, LENGTH, 0), 0, -7, 10, 5, 4);
     box_is("station_bounding_box of 1", station_bounding_box(sheet, LENGTH, 1), 0, 30, 19, 2, 4);
+    put(FONT_RECORD + 14, 2, 7);
+    glyph_is("station_index of H, the replacement", station_index(sheet, LENGTH, 0, 'H'), 0, 7, 1);
+    glyph_is("station_index of Z, replaced by H", station_index(sheet, LENGTH, 0, 'Z'), 0, 7, 0);
 }
 
 static void try_walker(void)
@@ -178,12 +198,68 @@ static void try_drawing(void)
     same("station_draw", "pixel (30, 19)", frame[19 * WIDTH + 30], 9);
     same("station_draw", "pixel (31, 22)", frame[22 * WIDTH + 31], 7);
     memset(frame, 1, sizeof frame);
-    position_is("station_draw_item 0", station_draw_item(sheet, LENGTH, frame, PIXELS, 0), 0, -2, 11);
+    drawn_is("station_draw_item 0", station_draw_item(sheet, LENGTH, frame, PIXELS, 0), 0, -2, 11, 0);
     same("station_draw_item 0", "corner", frame[0], 1);
-    position_is("station_draw_item 1", station_draw_item(sheet, LENGTH, frame, PIXELS, 1), 0, 32, 20);
+    drawn_is("station_draw_item 1", station_draw_item(sheet, LENGTH, frame, PIXELS, 1), 0, 32, 20, 0);
     same("station_draw_item 1", "pixel (30, 19)", frame[19 * WIDTH + 30], 9);
     position_is("station_draw_whitespace", station_draw_whitespace(sheet, LENGTH, frame, PIXELS, 0, 300), 0, 293, 11);
     same("station_draw_whitespace", "pixel (39, 13)", frame[13 * WIDTH + 39], 7);
+}
+
+/* Gives item 0 a text, before its characters are counted. */
+static void set_text(const char *text)
+{
+    same(text, "code of the edit", station_set_text_on_sheet(sheet, LENGTH, 0, (const uint8_t *)text, strlen(text)).code, STATION_OK);
+}
+
+static void replaced_is(const char *text, const char *field, uint32_t replaced)
+{
+    station_drawn r = station_draw_item(sheet, LENGTH, frame, PIXELS, 0);
+    same(text, "code of the drawing", r.code, STATION_OK);
+    same(text, field, r.replaced, replaced);
+}
+
+/* The mapping lists A to H. Only A and B have a glyph, and the replacement has none. */
+static void try_replaced(void)
+{
+    static const struct {
+        const char *text;
+        uint32_t replaced, unmapped; /* with this mapping, and with an empty one */
+    } texts[] = {
+        {"", 0, 0},
+        {"ABBA", 0, 4},
+        {"HHH", 0, 3},
+        {"AZBZ", 2, 4},
+        {"\xC2\xB0Z\xC2\xB0", 3, 3},
+        {"Z\r", 1, 1},
+        {"A\r\r", 1, 2},
+        {"A\rB", 1, 3},
+        {"\r\n\r\n\r", 0, 0},
+        {"Z\n\nZ\r\n", 2, 2},
+    };
+    for (size_t k = 0; k < sizeof texts / sizeof texts[0]; k++) {
+        const char *text = texts[k].text;
+        make_sheet();
+        set_text(text);
+        replaced_is(text, "replaced", texts[k].replaced);
+        memset(sheet + ITEM_RECORD + STATION_ITEM_AT_STYLE, 0, STATION_STYLE_LENGTH);
+        replaced_is(text, "replaced, unpainted", texts[k].replaced);
+        make_sheet();
+        set_text(text);
+        put(ITEM_RECORD + STATION_ITEM_AT_X, 2, 32767);
+        put(ITEM_RECORD + STATION_ITEM_AT_Y, 2, 0x8000);
+        replaced_is(text, "replaced, off the frame", texts[k].replaced);
+        make_sheet();
+        put(FONT_RECORD + 4, 4, SLOT_0 - ATLAS); /* the atlas takes the mapping's bytes */
+        put(FONT_RECORD + 8, 4, SLOT_0);
+        put(FONT_RECORD + 12, 2, 0);
+        set_text(text);
+        replaced_is(text, "replaced, empty mapping", texts[k].unmapped);
+    }
+    make_sheet();
+    put(FONT_RECORD + 14, 2, 1);
+    set_text("BBZ");
+    replaced_is("BBZ", "replaced, B the replacement", 1);
 }
 
 static void try_page(void)
@@ -290,7 +366,8 @@ static void try_check(void)
         make_sheet();
         memcpy(sheet + changes[k].at, changes[k].bytes, changes[k].size);
         same("station_check of a changed sheet", "code", station_check(sheet, LENGTH), changes[k].code);
-        number_is("station_index in a changed sheet", station_index(sheet, LENGTH, 0, 'A'), changes[k].code, 0);
+        glyph_is("station_index in a changed sheet", station_index(sheet, LENGTH, 0, 'A'), changes[k].code, 0, 0);
+        drawn_is("station_draw_item in a changed sheet", station_draw_item(sheet, LENGTH, frame, PIXELS, 0), changes[k].code, 0, 0, 0);
     }
 }
 
@@ -308,10 +385,12 @@ static void try_refused_calls(void)
     memcpy(frame_before, frame, sizeof frame);
     memcpy(output_before, output, sizeof output);
 
+    glyph_is("station_index in font 1", station_index(sheet, LENGTH, 1, 'A'), STATION_REFUSED_NO_SUCH, 0, 0);
     number_is("station_contains in font 1", station_contains(sheet, LENGTH, 1, 'A'), STATION_REFUSED_NO_SUCH, 0);
     box_is("station_bounding_box of 2", station_bounding_box(sheet, LENGTH, 2), STATION_REFUSED_NO_SUCH, 0, 0, 0, 0);
     same("station_draw on a short frame", "code", station_draw(sheet, LENGTH, frame, PIXELS - 1), STATION_REFUSED_FRAME_LENGTH);
-    position_is("station_draw_item 2", station_draw_item(sheet, LENGTH, frame, PIXELS, 2), STATION_REFUSED_NO_SUCH, 0, 0);
+    drawn_is("station_draw_item on a short frame", station_draw_item(sheet, LENGTH, frame, PIXELS - 1, 0), STATION_REFUSED_FRAME_LENGTH, 0, 0, 0);
+    drawn_is("station_draw_item 2", station_draw_item(sheet, LENGTH, frame, PIXELS, 2), STATION_REFUSED_NO_SUCH, 0, 0, 0);
     position_is("station_draw_whitespace of 65,536", station_draw_whitespace(sheet, LENGTH, frame, PIXELS, 0, 65536),
                 STATION_REFUSED_WHITESPACE, 0, 0);
     box_is("station_set_text on a short frame", station_set_text(sheet, LENGTH, frame, 0, 0, bad_text, 1), STATION_REFUSED_FRAME_LENGTH, 0, 0, 0, 0);
@@ -338,12 +417,13 @@ static void try_empty_slices(uint8_t *none)
 {
     make_sheet();
     same("no sheet", "code", station_check(none, 0), STATION_REFUSED_LENGTH);
-    number_is("no sheet, index", station_index(none, 0, 0, 'A'), STATION_REFUSED_LENGTH, 0);
+    glyph_is("no sheet, index", station_index(none, 0, 0, 'A'), STATION_REFUSED_LENGTH, 0, 0);
     number_is("no sheet, contains", station_contains(none, 0, 0, 'A'), STATION_REFUSED_LENGTH, 0);
     box_is("no sheet, bounding box", station_bounding_box(none, 0, 0), STATION_REFUSED_LENGTH, 0, 0, 0, 0);
     same("no sheet and no frame", "code", station_draw(none, 0, none, 0), STATION_REFUSED_LENGTH);
     same("no frame", "code", station_draw(sheet, LENGTH, none, 0), STATION_REFUSED_FRAME_LENGTH);
-    position_is("no frame, item", station_draw_item(sheet, LENGTH, none, 0, 0), STATION_REFUSED_FRAME_LENGTH, 0, 0);
+    drawn_is("no sheet, item", station_draw_item(none, 0, frame, PIXELS, 0), STATION_REFUSED_LENGTH, 0, 0, 0);
+    drawn_is("no frame, item", station_draw_item(sheet, LENGTH, none, 0, 0), STATION_REFUSED_FRAME_LENGTH, 0, 0, 0);
     position_is("no frame, whitespace", station_draw_whitespace(sheet, LENGTH, none, 0, 0, 1), STATION_REFUSED_FRAME_LENGTH, 0, 0);
     box_is("no frame, place", station_set_place(sheet, LENGTH, none, 0, 0, 1, 1), STATION_REFUSED_FRAME_LENGTH, 0, 0, 0, 0);
     number_is("no frame, page", station_write_page(sheet, LENGTH, none, 0, output, sizeof output), STATION_REFUSED_FRAME_LENGTH, 0);
@@ -367,6 +447,7 @@ int main(void)
     try_walker();
     try_walker_loop();
     try_drawing();
+    try_replaced();
     try_page();
     try_bdf();
     try_edits(1);

@@ -15,9 +15,11 @@ enum { THREADS = 4, ROUNDS = 150 };
 struct answers {
     uint8_t frame[STATION_MOST_FRAME], output[STATION_MOST_PAGE];
     uint32_t check, drawn;
-    station_number index, contains, page;
+    station_glyph index;
+    station_number contains, page;
     station_box box;
-    station_position item, whitespace;
+    station_drawn item;
+    station_position whitespace;
 };
 
 static uint8_t sheet[STATION_MOST_SHEET];

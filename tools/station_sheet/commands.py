@@ -76,7 +76,8 @@ def run_show(arguments, files):
     if refusal is not None:
         raise Problem(refused(arguments.sheet, refusal))
     if measured is None and header_of(sheet).items > 0:
-        note("target/bin/station_items is missing: 'rt check station_items' makes it, and 'show' then has the items' boxes and next positions")
+        note("target/bin/station_items is missing: 'rt check station_items' makes it, and 'show' then has the items' boxes, next positions and "
+             "numbers of replaced characters")
 
 
 def run_explain(arguments, files):

@@ -1,7 +1,7 @@
 """A description of a sheet that is accepted: 'new' builds the same bytes from it."""
 from .bitmap import BitmapFont, pixels
-from .description import DECORATIONS, GREYS, UNUSED, FontPart, ItemPart, lists
-from .layout import ALIGNMENTS, BASELINES, HEIGHT_KINDS, font_of, header_of, item_of, run_length, spelled
+from .description import DECORATIONS, GREYS, UNUSED, FontPart, ItemPart
+from .layout import ALIGNMENTS, BASELINES, HEIGHT_KINDS, font_of, header_of, item_of, run_length, spelled, unlisted
 
 
 def describe(sheet, name):
@@ -126,9 +126,9 @@ def item_lines(item, fonts):
         lines.append(f'baseline = "{BASELINES[baseline].lower()}"')
     if (kind, height) != (HEIGHT_KINDS.index("percent"), 100):
         lines.append(f'line_height = "{height}%"' if kind else f"line_height = {height}")
-    text = item.text.decode("utf-8")
-    if any(c not in "\n\r" and not lists(fonts[item.font], ord(c)) for c in set(text)):
+    if unlisted(item.text, fonts[item.font].mapping):
         lines.append("missing_glyphs = true")
+    text = item.text.decode("utf-8")
     split = text.split("\n")
     lines.append(f"text = {string(text)}" if len(split) == 1 else f"lines = [{', '.join(map(string, split))}]")
     if item.slot != len(item.text):

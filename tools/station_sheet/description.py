@@ -2,7 +2,6 @@
 import re
 import tomllib
 from collections import namedtuple
-from functools import lru_cache
 from pathlib import Path
 
 from . import Problem
@@ -12,7 +11,7 @@ from .explain import explain, header_refusals
 from .files import MOST_TEXT, input_name
 from .layout import (ALIGNMENTS, BASELINES, EDITION, FONT_FORM, FONT_SIZE, HEADER_FORM, HEADER_SIZE, HEIGHT_KINDS, ITEM_FORM, ITEM_SIZE,
                      MOST_ATLAS_WIDTH, MOST_CELL, MOST_FONTS, MOST_HEIGHT, MOST_ITEMS, MOST_SIDE, MOST_SLOT, Header, code_point, font_of,
-                     header_of, spelled)
+                     header_of, unlisted)
 from .toml_lines import MOST_PARTS, Lines, long_key
 
 GREYS = ("text_grey", "background_grey")
@@ -222,17 +221,6 @@ def finished_font(table, font):
     return font
 
 
-@lru_cache(maxsize=8)
-def listed_runs(mapping):
-    """The first and last character of each run that a mapping lists."""
-    return [(first, last) for _, first, last in spelled([ord(c) for c in mapping.decode("utf-8")])]
-
-
-def lists(font, value):
-    """Whether a font's mapping lists a character."""
-    return any(first <= value <= last for first, last in listed_runs(font.mapping))
-
-
 # ---- styles and items
 
 def read_style(table, fonts):
@@ -296,7 +284,7 @@ def read_item(table, fonts, styles):
     font = said.get("font", 0)
     if not isinstance(table.entries.get("missing_glyphs", False), bool):
         raise table.problem("missing_glyphs", "'missing_glyphs' is true or false")
-    missing = [c for c in dict.fromkeys(text.decode("utf-8")) if c not in "\n\r" and not lists(fonts[font], ord(c))]
+    missing = unlisted(text, fonts[font].mapping)
     if missing and not table.entries.get("missing_glyphs"):
         raise table.problem("lines" if "lines" in table else "text", f"font '{fonts[font].name}' has no glyph for {code_point(ord(missing[0]))} "
                                                                      f"({missing[0]!r}); with 'missing_glyphs = true' its replacement is taken")

@@ -1,6 +1,7 @@
 """The layout of a sheet (docs/SHEET.md): header, font records, item records, and the limits on their numbers."""
 import struct
 from collections import namedtuple
+from functools import lru_cache
 
 EDITION = 1
 HEADER_SIZE, FONT_SIZE, ITEM_SIZE = 24, 28, 28
@@ -66,6 +67,19 @@ def spelled(characters):
             at += 3
         else:
             return
+
+
+@lru_cache(maxsize=8)
+def listed_runs(mapping):
+    """The first and last character of each run that a mapping lists."""
+    return [(first, last) for _, first, last in spelled([ord(c) for c in mapping.decode("utf-8")])]
+
+
+def unlisted(text, mapping):
+    """The characters of a text's lines, without the 0D that is dropped at a line's end, that a mapping does not list."""
+    drawn = "".join(line.removesuffix("\r") for line in text.decode("utf-8").split("\n"))
+    missing = {c for c in set(drawn) if not any(first <= ord(c) <= last for first, last in listed_runs(mapping))}
+    return [c for c in drawn if c in missing]
 
 
 def run_length(first, last):

@@ -30,13 +30,14 @@ def drawn_page(sheet):
 
 
 def measured_items(sheet, count):
-    """Of each item the measured box (left, top, width, height) and the next position (x, y); None if the program is not there."""
+    """Of each item the measured box (left, top, width, height), the next position (x, y) and how many characters are replaced; None if the
+    program is not there."""
     if not is_there("station_items"):
         return None
     try:
         rows = [[int(word) for word in line.split()] for line in run("station_items", sheet).decode("ascii").splitlines()]
     except ValueError:
         rows = []
-    if [row[0] for row in rows if len(row) == 7] != list(range(count)) or len(rows) != count:
-        raise Problem("target/bin/station_items wrote something else than seven numbers for each item", 2)
+    if [row[0] for row in rows if len(row) == 8] != list(range(count)) or len(rows) != count:
+        raise Problem("target/bin/station_items wrote something else than eight numbers for each item", 2)
     return [row[1:] for row in rows]

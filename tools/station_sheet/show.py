@@ -1,12 +1,12 @@
 """A sheet's header, fonts and items, with the offset of each, and what a proved program measured of the items."""
 from .layout import (ALIGNMENTS, BASELINES, HEADER_SIZE, HEIGHT_KINDS, code_point, font_of, font_record, header_of, item_of, item_record,
-                     run_length, spelled)
+                     run_length, spelled, unlisted)
 
 MOST_RUNS = 12
 
 
 def show(sheet, refusal, measured):
-    """The lines for a sheet, as far as its layout can be followed. Measured has a box and a position for each item, or is None."""
+    """The lines for a sheet, as far as its layout can be followed. Measured has a box, a position and a count for each item, or is None."""
     if len(sheet) < HEADER_SIZE:
         return []
     header = header_of(sheet)
@@ -19,9 +19,11 @@ def show(sheet, refusal, measured):
             lines += font_lines(sheet, number)
         for number in range(header.items):
             lines += item_lines(sheet, header, number)
+            if refusal is None:
+                lines += unlisted_lines(sheet, item_of(sheet, number))
             if measured is not None:
-                left, top, width, height, x, y = measured[number]
-                lines.append(f"    measured box at ({left}, {top}), {width} by {height}; next position ({x}, {y})")
+                left, top, width, height, x, y, replaced = measured[number]
+                lines.append(f"    measured box at ({left}, {top}), {width} by {height}; next position ({x}, {y}); {replaced} replaced")
     return lines
 
 
@@ -74,6 +76,15 @@ def item_lines(sheet, header, number):
         f"strikethrough {decoration(item.strikethrough_mode, item.strikethrough_grey)}",
         f"    slot at {item.slot_at}: {item.slot_size} bytes, text {item.text_length} bytes: {quoted(text)}",
     ]
+
+
+def unlisted_lines(sheet, item):
+    """A line with the characters of an item that its font does not list, each once; none if all are listed."""
+    font = font_of(sheet, item.font)
+    mapping = sheet[font.mapping_at:font.mapping_at + font.mapping_length]
+    found = list(dict.fromkeys(unlisted(sheet[item.slot_at:item.slot_at + item.text_length], mapping)))
+    more = f" and {len(found) - MOST_RUNS} more" if len(found) > MOST_RUNS else ""
+    return [f"    not listed: {', '.join(code_point(ord(c)) for c in found[:MOST_RUNS])}{more}"] if found else []
 
 
 def named(names, code):

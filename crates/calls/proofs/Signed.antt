@@ -16,8 +16,9 @@ use Rattle.geometry.specs.Layer.{origin, signed}
 use Rattle.sheet.specs.Edits.{newPlace, placeRefusal, refusal}
 use Rattle.edits.proofs.Signed.{read}
 use Rattle.calls.specs.declared.Position.{Position}
+use Rattle.calls.specs.declared.Drawn.{Drawn}
 use Rattle.calls.specs.declared.Box.{Box}
-use Rattle.calls.specs.Calls.{positionReply, boxReply, editCode, onSheetCode}
+use Rattle.calls.specs.Calls.{positionReply, drawnReply, boxReply, editCode, onSheetCode}
 use Rattle.calls.specs.Replies.{PointFits, CornerFits}
 
 by-sign : (x : ℕ) → x < 2 ^ 31 → (t : Bool) → SFits w32 (cond t (negsuc (origin - suc x)) (pos (x - origin)))
@@ -45,6 +46,11 @@ module _ (x : ℕ) (h : x < 2 ^ 31) where
 pub position-is : (p : Point) (x y : ℤ) → PointFits p → x ≡ signed (p .x) → y ≡ signed (p .y) → _≡_ {A = Position} (record { code = 0; x = read x; y = read y }) (positionReply 0 p)
 unfolding positionReply
 position-is p x y f ex ey = rw (read-signed (p .x) (f .x) x ex, read-signed (p .y) (f .y) y ey)
+
+pub drawn-is : (p : Point) (x y : ℤ) (n : ℕ) → PointFits p → x ≡ signed (p .x) → y ≡ signed (p .y)
+    → _≡_ {A = Drawn} (record { code = 0; x = read x; y = read y; replaced = n }) (drawnReply 0 p n)
+unfolding drawnReply
+drawn-is p x y n f ex ey = rw (read-signed (p .x) (f .x) x ex, read-signed (p .y) (f .y) y ey)
 
 pub box-is : (a : Rectangle) (left top : ℤ) → CornerFits a → left ≡ signed (a .left) → top ≡ signed (a .top)
     → _≡_ {A = Box} (record { code = 0; left = read left; top = read top; width = a .width; height = a .height }) (boxReply 0 a)

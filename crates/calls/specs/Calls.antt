@@ -14,9 +14,9 @@ use Rattle.characters.specs.declared.Step as Characters
 use Rattle.characters.specs.declared.Step.the-variants.{Character, IllFormed, End}
 use Rattle.characters.specs.Refusal.{need, orElse, unlessRefused}
 use Rattle.characters.specs.Utf8.{stepAt}
-use Rattle.mapping.specs.Mapping.{contains}
-use Rattle.line.specs.Line.{glyphIndex}
-use Rattle.text.specs.Text.{next, boundingBox}
+use Rattle.mapping.specs.declared.Glyph as Mapping
+use Rattle.mapping.specs.Mapping.{glyph, contains}
+use Rattle.text.specs.Text.{next, replaced, boundingBox}
 use Rattle.page.specs.Page.{pageHeader}
 use Rattle.sheet.specs.Fields.{frameWidth, frameHeight, fontCount, itemCount}
 use Rattle.sheet.specs.Check.{check}
@@ -25,7 +25,9 @@ use Rattle.records.specs.Records.{font, item, itemFont}
 use Rattle.sheet.specs.Edits.{Edit, itemNumber, refusal, edited}
 use Rattle.drawing.specs.Drawing.{itemLayer, freshDrawing, pixelCount, whitespaceLayer, whitespaceNext, damage, repainted}
 use Rattle.calls.specs.declared.Number.{Number}
+use Rattle.calls.specs.declared.Glyph.{Glyph}
 use Rattle.calls.specs.declared.Position.{Position}
+use Rattle.calls.specs.declared.Drawn.{Drawn}
 use Rattle.calls.specs.declared.Box.{Box}
 use Rattle.calls.specs.declared.Step.{Step}
 
@@ -36,6 +38,14 @@ numberReply code value = record { code = code; value = unlessRefused code value 
 
 unfoldable pub positionReply : ℕ → Point → Position
 positionReply code p = record { code = code; x = unlessRefused code (signed (p .x)) (pos 0); y = unlessRefused code (signed (p .y)) (pos 0) }
+
+unfoldable pub drawnReply : ℕ → Point → ℕ → Drawn
+drawnReply code p replaced = record {
+  code = code;
+  x = unlessRefused code (signed (p .x)) (pos 0);
+  y = unlessRefused code (signed (p .y)) (pos 0);
+  replaced = unlessRefused code replaced 0;
+}
 
 unfoldable pub boxReply : ℕ → Rectangle → Box
 boxReply code a = record {
@@ -49,6 +59,9 @@ boxReply code a = record {
 abbrev pub yesNo : Bool → ℕ
 yesNo true = 1
 yesNo false = 0
+
+unfoldable pub glyphReply : ℕ → Mapping.Glyph → Glyph
+glyphReply code g = record { code = code; index = unlessRefused code (g .index) 0; listed = unlessRefused code (yesNo (g .listed)) 0 }
 
 -- ---- the calls' own tests, after the check
 
@@ -67,8 +80,8 @@ fits b frame rest = need (eqb (length frame) (pixelCount b)) 11 rest
 unfoldable pub fontCode : List ℕ → ℕ → ℕ
 fontCode b n = orElse (check b) (isThere n (fontCount b) 0)
 
-unfoldable pub indexReply : List ℕ → ℕ → ℕ → Number
-indexReply b n ch = numberReply (fontCode b n) (glyphIndex (font b n) ch)
+unfoldable pub indexReply : List ℕ → ℕ → ℕ → Glyph
+indexReply b n ch = glyphReply (fontCode b n) (glyph (font b n .mapping) (font b n .mono .«replacement_index») ch)
 
 unfoldable pub containsReply : List ℕ → ℕ → ℕ → Number
 containsReply b n ch = numberReply (fontCode b n) (yesNo (contains (font b n .mapping) ch))
@@ -86,8 +99,8 @@ boundingBoxReply b n = boxReply (itemCode b n) (boundingBox (itemFont b n .mono)
 unfoldable pub drawItemCode : List ℕ → List ℕ → ℕ → ℕ
 drawItemCode b frame n = orElse (check b) (fits b frame (isThere n (itemCount b) 0))
 
-unfoldable pub drawItemReply : List ℕ → List ℕ → ℕ → Position
-drawItemReply b frame n = positionReply (drawItemCode b frame n) (next (itemFont b n .mono) (item b n))
+unfoldable pub drawItemReply : List ℕ → List ℕ → ℕ → Drawn
+drawItemReply b frame n = drawnReply (drawItemCode b frame n) (next (itemFont b n .mono) (item b n)) (replaced (itemFont b n) (item b n))
 
 unfoldable pub drawItemFrame : List ℕ → List ℕ → ℕ → List ℕ
 drawItemFrame b frame n = unlessRefused (drawItemCode b frame n) (paint (frameWidth b) (itemLayer b n) frame) frame

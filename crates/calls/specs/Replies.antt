@@ -5,7 +5,9 @@ use lib.IntN.{pos}
 use Rattle.geometry.specs.declared.Point.{Point}
 use Rattle.geometry.specs.declared.Rectangle.{Rectangle}
 use Rattle.calls.specs.declared.Number.{Number}
+use Rattle.calls.specs.declared.Glyph.{Glyph}
 use Rattle.calls.specs.declared.Position.{Position}
+use Rattle.calls.specs.declared.Drawn.{Drawn}
 use Rattle.calls.specs.declared.Box.{Box}
 
 -- "A refused one returns its number with zeros"
@@ -13,8 +15,14 @@ use Rattle.calls.specs.declared.Box.{Box}
 abbrev pub refusedNumber : ℕ → Number
 refusedNumber code = record { code = code; value = 0 }
 
+abbrev pub refusedGlyph : ℕ → Glyph
+refusedGlyph code = record { code = code; index = 0; listed = 0 }
+
 abbrev pub refusedPosition : ℕ → Position
 refusedPosition code = record { code = code; x = pos 0; y = pos 0 }
+
+abbrev pub refusedDrawn : ℕ → Drawn
+refusedDrawn code = record { code = code; x = pos 0; y = pos 0; replaced = 0 }
 
 abbrev pub refusedBox : ℕ → Box
 refusedBox code = record { code = code; left = pos 0; top = pos 0; width = 0; height = 0 }

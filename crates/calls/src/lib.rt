@@ -2,11 +2,19 @@
 pub mod codes;
 pub mod replies;
 
-// A code and a value: an index, yes or no as 1 or 0, or a length.
+// A code and a value: yes or no as 1 or 0, or a length.
 #[repr(C)]
 pub struct Number {
     pub code: u32,
     pub value: u32,
+}
+
+// A code, the index of a character's glyph, and 1 for a character that is listed, else 0.
+#[repr(C)]
+pub struct Glyph {
+    pub code: u32,
+    pub index: u32,
+    pub listed: u32,
 }
 
 // A code and a position on the frame.
@@ -15,6 +23,15 @@ pub struct Position {
     pub code: u32,
     pub x: i32,
     pub y: i32,
+}
+
+// A code, the position after what was drawn, and how many characters are not listed.
+#[repr(C)]
+pub struct Drawn {
+    pub code: u32,
+    pub x: i32,
+    pub y: i32,
+    pub replaced: u32,
 }
 
 // A code and a rectangle on the frame.

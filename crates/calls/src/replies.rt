@@ -1,5 +1,7 @@
 // The replies by value: a good one from numbers counted from the origin, and a refused one, with zeros.
 use super::Box;
+use super::Drawn;
+use super::Glyph;
 use super::Number;
 use super::Position;
 use geometry::ORIGIN;
@@ -8,8 +10,8 @@ use geometry::Rectangle;
 ghost use mathlib.Core.Path.{_≡_};
 ghost use Prim.Native.Nat.{_<_, _^_};
 ghost use Rattle.geometry.specs.Layer.{signed};
-ghost use Rattle.calls.specs.Calls.{positionReply, boxReply};
-ghost use Rattle.calls.specs.Replies.{refusedNumber, refusedPosition, refusedBox, PointFits, CornerFits};
+ghost use Rattle.calls.specs.Calls.{yesNo, positionReply, drawnReply, boxReply};
+ghost use Rattle.calls.specs.Replies.{refusedNumber, refusedGlyph, refusedPosition, refusedDrawn, refusedBox, PointFits, CornerFits};
 
 // The reply of a refused call that gives a number.
 pub fn refused_number(code: u32) -> Number
@@ -18,11 +20,34 @@ pub fn refused_number(code: u32) -> Number
     Number { code, value: 0 }
 }
 
+// The reply of a refused call that gives a glyph.
+pub fn refused_glyph(code: u32) -> Glyph
+    ensures { λ r. ⌜ r ≡ refusedGlyph code ⌝ }
+{
+    Glyph {
+        code,
+        index: 0,
+        listed: 0,
+    }
+}
+
 // The reply of a refused call that gives a position.
 pub fn refused_position(code: u32) -> Position
     ensures { λ r. ⌜ r ≡ refusedPosition code ⌝ }
 {
     Position { code, x: 0, y: 0 }
+}
+
+// The reply of a refused call that draws an item.
+pub fn refused_drawn(code: u32) -> Drawn
+    ensures { λ r. ⌜ r ≡ refusedDrawn code ⌝ }
+{
+    Drawn {
+        code,
+        x: 0,
+        y: 0,
+        replaced: 0,
+    }
 }
 
 // The reply of a refused call that gives a rectangle.
@@ -36,6 +61,16 @@ pub fn refused_box(code: u32) -> Box
         width: 0,
         height: 0,
     }
+}
+
+// 1 or 0.
+pub fn yes_no(yes: bool) -> u32
+    ensures { λ r. ⌜ r ≡ yesNo yes ⌝ }
+{
+    if yes {
+        return 1;
+    }
+    0
 }
 
 // A coordinate as a signed number of the frame's columns or rows.
@@ -55,6 +90,21 @@ pub fn position_reply(p: Point) -> Position
         code: 0,
         x: signed(p.x),
         y: signed(p.y),
+    }
+}
+
+// The reply of a good call that draws an item.
+pub fn drawn_reply(p: Point, replaced: u32) -> Drawn
+    requires { ⌜ PointFits p ⌝ }
+    ensures { λ r. ⌜ r ≡ drawnReply 0 p replaced ⌝ }
+{
+    let x = signed(p.x);
+    let y = signed(p.y);
+    Drawn {
+        code: 0,
+        x,
+        y,
+        replaced,
     }
 }
 

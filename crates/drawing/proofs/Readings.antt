@@ -2,7 +2,7 @@
 use Prim.Native.Nat.{ℕ, _+_, _-_, _≤_}
 use native.Mathlib.Omega.{arith}
 use mathlib.Core.Path.{_≡_, refl, ap, _∙_}
-use mathlib.Core.Bool.{Bool, true}
+use mathlib.Core.Bool.{Bool, true, cond}
 use mathlib.Core.List.{List}
 use lib.ListN.{length, length-take}
 use Rattle.geometry.specs.declared.Point.{Point}
@@ -17,7 +17,7 @@ use Rattle.line.specs.declared.MonoTextStyle.{MonoTextStyle}
 use Rattle.line.specs.Line.{fontOf, baselineOffset, whitespace}
 use Rattle.line.specs.Limits.{FontLimits}
 use Rattle.text.specs.declared.TextStyle.{TextStyle}
-use Rattle.text.specs.Text.{textOf, layer, next, boundingBox, inkBox}
+use Rattle.text.specs.Text.{textOf, layer, next, replaced, boundingBox, inkBox}
 use Rattle.text.specs.Limits.{TextLimits}
 use Rattle.sheet.specs.Fields.{part, itemAt, fontAt, fontNumber, atlasBytes, mappingBytes, textBytes, frameWidth}
 use Rattle.sheet.specs.Requires.{FontListed, ItemListed}
@@ -80,6 +80,12 @@ module _ (b : List ℕ) (n : ℕ) where
 
     pub item-box : (a : Rectangle) → a ≡ boundingBox (i .font) (textOf text (i .position .x) (i .position .y) (i .«character_style») (i .«text_style»)) → a ≡ boundingBox (itemFont b n .mono) (item b n)
     item-box a e = rw (item-is, r .font) at e
+
+    pub item-replaced : (counts : Bool) (atlas mapping : List ℕ) (k : ℕ) → atlas ≡ atlasBytes b (fontAt (i .«font_number»)) → mapping ≡ mappingBytes b (fontAt (i .«font_number»))
+        → k ≡ cond counts (replaced (fontOf (i .font) atlas mapping) (textOf text (i .position .x) (i .position .y) (i .«character_style») (i .«text_style»))) 0
+        → k ≡ cond counts (replaced (itemFont b n) (item b n)) 0
+    unfolding itemFont font
+    item-replaced counts atlas mapping k ea em e = rw (item-is, ea, em, r .font, r .font-number) at e
 
     pub item-painted : (t : DrawTarget) (clip : Rectangle) (atlas mapping xs ys : List ℕ) → t ≡ targetOf b clip
         → atlas ≡ atlasBytes b (fontAt (i .«font_number»)) → mapping ≡ mappingBytes b (fontAt (i .«font_number»))

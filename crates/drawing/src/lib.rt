@@ -9,13 +9,15 @@ use items::item_at;
 use sheet::fields::frame_height;
 use sheet::fields::frame_width;
 use sheet::fields::item_count;
+use text::DrawnText;
 use text::TextLayout;
 ghost use mathlib.Core.Path.{_≡_};
+ghost use mathlib.Core.Bool.{cond};
 ghost use Prim.Native.Nat.{_≤_};
 ghost use lib.ListN.{length};
 ghost use Rattle.geometry.specs.Layer.{paint, paintIn, frameOf};
 ghost use Rattle.geometry.specs.Canvas.{Canvas};
-ghost use Rattle.text.specs.Text.{next, boundingBox};
+ghost use Rattle.text.specs.Text.{next, replaced, boundingBox};
 ghost use Rattle.sheet.specs.Fields.{frameWidth, frameHeight};
 ghost use Rattle.sheet.specs.Accepted.{Accepted};
 ghost use Rattle.sheet.specs.Requires.{ItemListed};
@@ -54,12 +56,13 @@ fn target_of(sheet: &[u8], clip: Rectangle) -> DrawTarget
     }
 }
 
-// Draws an item in a clip; gives its next position.
-fn draw_item_in(sheet: &[u8], frame: &mut [u8], clip: Rectangle, n: u32) -> Point
+// Draws an item in a clip; gives its next position, and how many characters are not listed if `counts`.
+fn draw_item_in(sheet: &[u8], frame: &mut [u8], clip: Rectangle, counts: bool, n: u32) -> DrawnText
     requires { ⌜ ItemListed (now sheet) n ⌝ }
     requires { ⌜ Canvas (targetOf (now sheet) clip) (length (now frame)) ⌝ }
     ensures { λ _. ⌜ now (frame .exit) ≡ paintIn (frameWidth (now (sheet .entry))) clip (itemLayer (now (sheet .entry)) n) (now (frame .entry)) ⌝ }
-    ensures { λ r. ⌜ r ≡ next (itemFont (now (sheet .entry)) n .mono) (item (now (sheet .entry)) n) ⌝ }
+    ensures { λ r. ⌜ r .next ≡ next (itemFont (now (sheet .entry)) n .mono) (item (now (sheet .entry)) n) ⌝ }
+    ensures { λ r. ⌜ r .replaced ≡ cond counts (replaced (itemFont (now (sheet .entry)) n) (item (now (sheet .entry)) n)) 0 ⌝ }
 {
     let target = target_of(sheet, clip);
     let item = item_at(sheet, n);
@@ -76,7 +79,7 @@ fn draw_item_in(sheet: &[u8], frame: &mut [u8], clip: Rectangle, n: u32) -> Poin
         character_style,
         text_style,
     };
-    text::draw(frame, target, atlas, mapping, text, font, layout)
+    text::draw(frame, target, atlas, mapping, text, font, layout, counts)
 }
 
 // Draws an item in a clip; one whose ink box the clip does not meet is not drawn.
@@ -88,7 +91,7 @@ fn draw_met_item(sheet: &[u8], frame: &mut [u8], clip: Rectangle, whole: bool, n
     if is_missed(sheet, clip, whole, n) {
         return;
     }
-    draw_item_in(sheet, frame, clip, n);
+    draw_item_in(sheet, frame, clip, false, n);
 }
 
 // Draws the items in a clip, in order; `whole` says that the clip is the frame, which saves the ink boxes.
@@ -127,15 +130,16 @@ pub fn draw(sheet: &[u8], frame: &mut [u8])
     repaint(sheet, frame, area);
 }
 
-// Draws an item on a frame of the sheet's size; gives its next position.
-pub fn draw_item(sheet: &[u8], frame: &mut [u8], n: u32) -> Point
+// Draws an item on a frame of the sheet's size; gives its next position, and how many characters of its lines are not listed.
+pub fn draw_item(sheet: &[u8], frame: &mut [u8], n: u32) -> DrawnText
     requires { ⌜ ItemListed (now sheet) n ⌝ }
     requires { ⌜ Framed (now sheet) (now frame) ⌝ }
     ensures { λ _. ⌜ now (frame .exit) ≡ paint (frameWidth (now (sheet .entry))) (itemLayer (now (sheet .entry)) n) (now (frame .entry)) ⌝ }
-    ensures { λ r. ⌜ r ≡ next (itemFont (now (sheet .entry)) n .mono) (item (now (sheet .entry)) n) ⌝ }
+    ensures { λ r. ⌜ r .next ≡ next (itemFont (now (sheet .entry)) n .mono) (item (now (sheet .entry)) n) ⌝ }
+    ensures { λ r. ⌜ r .replaced ≡ replaced (itemFont (now (sheet .entry)) n) (item (now (sheet .entry)) n) ⌝ }
 {
     let clip = frame_of(sheet);
-    draw_item_in(sheet, frame, clip, n)
+    draw_item_in(sheet, frame, clip, true, n)
 }
 
 // Draws whitespace of a width at an item's place in a clip; gives the next position.

@@ -2,5 +2,6 @@ pub mod Advances
 pub mod Ink
 pub mod Colors
 pub mod Painting
+pub mod Unlisted
 pub mod Strings
 pub mod Glyphs

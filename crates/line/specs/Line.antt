@@ -114,6 +114,11 @@ decorations m s width x top =
 abbrev pub glyphIndex : Font → ℕ → ℕ
 glyphIndex f ch = Mapping.index (f .mapping) (f .mono .«replacement_index») ch
 
+-- how many characters of a list a mapping does not list, each as often as it occurs
+unfoldable pub unlisted : List ℕ → List ℕ → ℕ
+unlisted mapping [] = 0
+unlisted mapping (ch ∷ chs) = cond (Mapping.contains mapping ch) 0 1 + unlisted mapping chs
+
 -- the glyphs of a text from x on
 abbrev pub lineGlyphs : Font → MonoTextStyle → List ℕ → ℕ → ℕ → Layer
 lineGlyphs f s text x top = glyphs f s 0 (map (glyphIndex f) (chars text)) x top

@@ -9,6 +9,7 @@ use geometry::OptionalGrey;
 use geometry::Point;
 use geometry::Rectangle;
 use geometry::numbers::minus;
+use mapping::Glyph;
 use mapping::Start;
 pub use measuring::advance;
 pub use measuring::baseline_offset;
@@ -18,14 +19,16 @@ use measuring::is_painted;
 pub use measuring::measure_string;
 pub use measuring::measured_width;
 ghost use mathlib.Core.Path.{_≡_};
-ghost use Prim.Native.Nat.{_+_};
+ghost use mathlib.Core.Bool.{true, cond};
+ghost use Prim.Native.Nat.{_+_, _^_, _<_, _≤_};
 ghost use lib.ListN.{length};
 ghost use Rattle.geometry.specs.Canvas.{Canvas, paintOn};
 ghost use Rattle.characters.specs.Utf8.{chars};
 ghost use Rattle.mapping.specs.Entries.{WithinLimit};
-ghost use Rattle.line.specs.Line.{fontOf, toColor, character, lineGlyphs, spaced, advance, decoration, decorations, glyphIndex, string, whitespace};
-ghost use Rattle.line.specs.Clip.{disjoint, showsGlyphs};
-ghost use Rattle.line.specs.Limits.{FontLimits, LineStyleOf, PlaceLimits, CharacterLimits, DecorationLimits, TopLimit};
+ghost use Rattle.mapping.specs.Mapping.{contains};
+ghost use Rattle.line.specs.Line.{fontOf, characterWidth, toColor, character, lineGlyphs, spaced, advance, decoration, decorations, glyphIndex, unlisted, string, whitespace};
+ghost use Rattle.line.specs.Clip.{disjoint, showsGlyphs, isBeside, columnsOf, metCharacter, metUnlisted};
+ghost use Rattle.line.specs.Limits.{FontLimits, LineStyleOf, LengthLimit, PlaceLimits, CharacterLimits, ClipLimit, DecorationLimits, TopLimit};
 
 mod measuring;
 
@@ -45,13 +48,26 @@ pub struct MonoFont {
     pub underline: DecorationDimensions,
 }
 
-// What the glyphs of a line are drawn with: its colours and its font, how the font's atlas holds the glyphs, and where the search
-// in the font's mapping starts.
+// Columns of the target: a character that ends before `first`, or starts at `end` or after it, stands beside them.
+struct Columns {
+    first: u32,
+    end: u32,
+}
+
+// What the glyphs of a line are drawn with: its colours and its font, how the font's atlas holds the glyphs, where the search in the
+// font's mapping starts, and the columns in which characters are looked up.
 struct LineStyle {
     colors: MonoTextStyle,
     font: MonoFont,
     cells: Cells,
     start: Start,
+    columns: Columns,
+}
+
+// What drawing a line gives: the next x, and how many of its characters the font's mapping does not list, 0 if they are not counted.
+pub struct DrawnLine {
+    pub next: u32,
+    pub replaced: u32,
 }
 
 // The colour of a decoration.
@@ -108,8 +124,44 @@ fn shows_glyphs(clip: Rectangle, font: MonoFont, style: MonoTextStyle, top: u32)
     is_painted(style)
 }
 
-// Draws a gap from `corner` on in the background's grey and the glyph of a character after it; one that the target does not
-// show is not looked up.
+// The columns of a clip, or all of them for characters that are counted.
+fn columns_of(clip: Rectangle, counts: bool) -> Columns
+    requires { ⌜ ClipLimit clip ⌝ }
+    ensures { λ r. ⌜ r ≡ columnsOf clip counts ⌝ }
+{
+    if counts {
+        return Columns {
+            first: 0,
+            end: 0xFFFFFFFF,
+        };
+    }
+    let first = clip.left + 1;
+    let end = clip.left + clip.width;
+    Columns { first, end }
+}
+
+// Whether a character of a width at x stands beside columns.
+fn is_beside(columns: Columns, x: u32, width: u32) -> bool
+    requires { ⌜ x + width < 2 ^ 32 ⌝ }
+    ensures { λ r. ⌜ r ≡ isBeside columns x width ⌝ }
+{
+    let past = x + width;
+    (past < columns.first) | (columns.end <= x)
+}
+
+// A count, and one more for a character that is not listed.
+fn count_on(count: u32, glyph: Glyph) -> u32
+    requires { ⌜ count ≤ 65_536 ⌝ }
+    ensures { λ r. ⌜ r ≡ count + cond (glyph .listed) 0 1 ⌝ }
+{
+    if glyph.listed {
+        return count;
+    }
+    count + 1
+}
+
+// Draws a gap from `corner` on in the background's grey and the glyph of a character after it; gives the count, with the character if it is
+// not listed.
 fn draw_character(
     frame: &mut [u8],
     target: DrawTarget,
@@ -119,19 +171,19 @@ fn draw_character(
     corner: Point,
     gap: u32,
     ch: u32,
-)
+    count: u32,
+) -> u32
     requires { ⌜ Canvas target (length (now frame)) ⌝ }
-    requires { ⌜ LineStyleOf (now atlas) (now mapping) style ⌝ }
-    requires { ⌜ CharacterLimits gap (corner .x) ⌝ }
+    requires { ⌜ LineStyleOf (now atlas) (now mapping) (target .«clip_area») style ⌝ }
+    requires { ⌜ CharacterLimits gap (corner .x) count ⌝ }
     ensures { λ _. ⌜ now (frame .exit) ≡ paintOn target (character (fontOf (style .font) (now (atlas .entry)) (now (mapping .entry))) (style .colors) gap (glyphIndex (fontOf (style .font) (now (atlas .entry)) (now (mapping .entry))) ch) (corner .x) (corner .y)) (now (frame .entry)) ⌝ }
+    ensures { λ r. ⌜ r ≡ count + cond (contains (now (mapping .entry)) ch) 0 1 ⌝ }
 {
     let font = style.font;
     let image = font.atlas;
-    let clip = target.clip_area;
-    let width = gap + image.cell_size.width;
-    if disjoint(corner.x, width, clip.left, clip.width) {
-        return;
-    }
+    let start = style.start;
+    let glyph = mapping::glyph_with(mapping, start, font.replacement_index, ch);
+    let counted = count_on(count, glyph);
     let area = Rectangle {
         left: corner.x,
         top: corner.y,
@@ -142,16 +194,42 @@ fn draw_character(
     let text = colors.text_color;
     let background = colors.background_color;
     geometry::fill(frame, target, area, background);
-    let start = style.start;
-    let index = mapping::index_with(mapping, start, font.replacement_index, ch);
     let cells = style.cells;
     let greys = GlyphColors { text, background };
     let x = corner.x + gap;
     let at = Point { x, y: corner.y };
-    atlas::draw_glyph(frame, target, atlas, image, cells, greys, index, at);
+    atlas::draw_glyph(frame, target, atlas, image, cells, greys, glyph.index, at);
+    counted
 }
 
-// Draws the glyphs of a line from `corner` on, and the gaps between them; gives where they end.
+// The same; a character beside the columns is not looked up.
+fn draw_met_character(
+    frame: &mut [u8],
+    target: DrawTarget,
+    atlas: &[u8],
+    mapping: &[u8],
+    style: LineStyle,
+    corner: Point,
+    gap: u32,
+    ch: u32,
+    count: u32,
+) -> u32
+    requires { ⌜ Canvas target (length (now frame)) ⌝ }
+    requires { ⌜ LineStyleOf (now atlas) (now mapping) (target .«clip_area») style ⌝ }
+    requires { ⌜ CharacterLimits gap (corner .x) count ⌝ }
+    ensures { λ _. ⌜ now (frame .exit) ≡ paintOn target (character (fontOf (style .font) (now (atlas .entry)) (now (mapping .entry))) (style .colors) gap (glyphIndex (fontOf (style .font) (now (atlas .entry)) (now (mapping .entry))) ch) (corner .x) (corner .y)) (now (frame .entry)) ⌝ }
+    ensures { λ r. ⌜ r ≡ count + metCharacter (style .columns) (now (mapping .entry)) (gap + characterWidth (style .font)) ch (corner .x) ⌝ }
+{
+    let width = gap + style.font.atlas.cell_size.width;
+    let columns = style.columns;
+    if is_beside(columns, corner.x, width) {
+        return count;
+    }
+    draw_character(frame, target, atlas, mapping, style, corner, gap, ch, count)
+}
+
+// Draws the glyphs of a line from `corner` on, and the gaps between them; gives where they end, and how many characters that were looked
+// up are not listed.
 fn draw_glyphs(
     frame: &mut [u8],
     target: DrawTarget,
@@ -160,12 +238,13 @@ fn draw_glyphs(
     text: &[u8],
     style: LineStyle,
     corner: Point,
-) -> u32
+) -> DrawnLine
     requires { ⌜ Canvas target (length (now frame)) ⌝ }
-    requires { ⌜ LineStyleOf (now atlas) (now mapping) style ⌝ }
+    requires { ⌜ LineStyleOf (now atlas) (now mapping) (target .«clip_area») style ⌝ }
     requires { ⌜ PlaceLimits (length (now text)) (corner .x) (corner .y) ⌝ }
     ensures { λ _. ⌜ now (frame .exit) ≡ paintOn target (lineGlyphs (fontOf (style .font) (now (atlas .entry)) (now (mapping .entry))) (style .colors) (now (text .entry)) (corner .x) (corner .y)) (now (frame .entry)) ⌝ }
-    ensures { λ r. ⌜ r ≡ corner .x + spaced (style .font) (length (chars (now (text .entry)))) ⌝ }
+    ensures { λ r. ⌜ r .next ≡ corner .x + spaced (style .font) (length (chars (now (text .entry)))) ⌝ }
+    ensures { λ r. ⌜ r .replaced ≡ metUnlisted (style .columns) (style .font) (now (mapping .entry)) 0 (chars (now (text .entry))) (corner .x) ⌝ }
 {
     let font = style.font;
     let width = font.atlas.cell_size.width;
@@ -173,19 +252,72 @@ fn draw_glyphs(
     let mut c = Cursor { at: 0 };
     let mut x = corner.x;
     let mut gap: u32 = 0;
+    let mut replaced: u32 = 0;
     loop {
         let Step::Character(ch, after) = characters::next(text, c) else {
-            return x;
+            return DrawnLine { next: x, replaced };
         };
         let at = Point { x, y: corner.y };
-        draw_character(frame, target, atlas, mapping, style, at, gap, ch);
+        replaced = draw_met_character(frame, target, atlas, mapping, style, at, gap, ch, replaced);
         x = x + gap + width;
         gap = spacing;
         c = after;
     }
 }
 
-// Draws the characters of a line, if the target shows them; gives the next x.
+// Draws the characters of a line; gives where they end, and the count of those in the clip's columns, or of all if `counts`.
+fn draw_all_characters(
+    frame: &mut [u8],
+    target: DrawTarget,
+    atlas: &[u8],
+    mapping: &[u8],
+    text: &[u8],
+    font: MonoFont,
+    style: MonoTextStyle,
+    corner: Point,
+    counts: bool,
+) -> DrawnLine
+    requires { ⌜ Canvas target (length (now frame)) ⌝ }
+    requires { ⌜ FontLimits font ⌝ }
+    requires { ⌜ WithinLimit (now mapping) ⌝ }
+    requires { ⌜ PlaceLimits (length (now text)) (corner .x) (corner .y) ⌝ }
+    ensures { λ _. ⌜ now (frame .exit) ≡ paintOn target (lineGlyphs (fontOf font (now (atlas .entry)) (now (mapping .entry))) style (now (text .entry)) (corner .x) (corner .y)) (now (frame .entry)) ⌝ }
+    ensures { λ r. ⌜ r .next ≡ corner .x + spaced font (length (chars (now (text .entry)))) ⌝ }
+    ensures { λ r. ⌜ r .replaced ≡ metUnlisted (columnsOf (target .«clip_area») counts) font (now (mapping .entry)) 0 (chars (now (text .entry))) (corner .x) ⌝ }
+{
+    let image = font.atlas;
+    let clip = target.clip_area;
+    let prepared = LineStyle {
+        colors: style,
+        font,
+        cells: atlas::cells_of(atlas.len(), image),
+        start: mapping::start_of(mapping, text),
+        columns: columns_of(clip, counts),
+    };
+    draw_glyphs(frame, target, atlas, mapping, text, prepared, corner)
+}
+
+// The next x of a line that starts at x.
+fn next_x(text: &[u8], font: MonoFont, style: MonoTextStyle, x: u32) -> u32
+    requires { ⌜ FontLimits font ⌝ }
+    requires { ⌜ LengthLimit (length (now text)) ⌝ }
+    requires { ⌜ x ≤ 8_388_608 ⌝ }
+    ensures { λ r. ⌜ r ≡ x + advance font style (length (chars (now (text .entry)))) ⌝ }
+{
+    x + advance(text, font, style)
+}
+
+// A count that is asked for, else 0.
+fn only_if(counts: bool, count: u32) -> u32
+    ensures { λ r. ⌜ r ≡ cond counts count 0 ⌝ }
+{
+    if counts {
+        return count;
+    }
+    0
+}
+
+// Draws the characters of a line, if the target shows them or they are counted; gives the next x, and the count if `counts`.
 fn draw_characters(
     frame: &mut [u8],
     target: DrawTarget,
@@ -195,26 +327,39 @@ fn draw_characters(
     font: MonoFont,
     style: MonoTextStyle,
     corner: Point,
-) -> u32
+    counts: bool,
+) -> DrawnLine
     requires { ⌜ Canvas target (length (now frame)) ⌝ }
     requires { ⌜ FontLimits font ⌝ }
     requires { ⌜ WithinLimit (now mapping) ⌝ }
     requires { ⌜ PlaceLimits (length (now text)) (corner .x) (corner .y) ⌝ }
     ensures { λ _. ⌜ now (frame .exit) ≡ paintOn target (lineGlyphs (fontOf font (now (atlas .entry)) (now (mapping .entry))) style (now (text .entry)) (corner .x) (corner .y)) (now (frame .entry)) ⌝ }
-    ensures { λ r. ⌜ r ≡ corner .x + advance font style (length (chars (now (text .entry)))) ⌝ }
+    ensures { λ r. ⌜ r .next ≡ corner .x + advance font style (length (chars (now (text .entry)))) ⌝ }
+    ensures { λ r. ⌜ (counts ≡ true → r .replaced ≡ unlisted (now (mapping .entry)) (chars (now (text .entry)))) ⌝ }
 {
     let clip = target.clip_area;
-    if shows_glyphs(clip, font, style, corner.y) {
-        let image = font.atlas;
-        let prepared = LineStyle {
-            colors: style,
-            font,
-            cells: atlas::cells_of(atlas.len(), image),
-            start: mapping::start_of(mapping, text),
-        };
-        return draw_glyphs(frame, target, atlas, mapping, text, prepared, corner);
+    let shown = shows_glyphs(clip, font, style, corner.y);
+    if !(shown | counts) {
+        let next = next_x(text, font, style, corner.x);
+        return DrawnLine { next, replaced: 0 };
     }
-    corner.x + advance(text, font, style)
+    let drawn = draw_all_characters(
+        frame,
+        target,
+        atlas,
+        mapping,
+        text,
+        font,
+        style,
+        corner,
+        counts,
+    );
+    if shown {
+        return drawn;
+    }
+    let next = next_x(text, font, style, corner.x);
+    let replaced = drawn.replaced;
+    DrawnLine { next, replaced }
 }
 
 // Draws a decoration of a line, as wide as the line is long.
@@ -264,7 +409,7 @@ fn draw_decorations(
     draw_decoration(frame, target, underline, second, corner, width);
 }
 
-// Draws a line of text from `corner` on: its start and its top edge; gives the next x.
+// Draws a line of text from `corner` on: its start and its top edge; gives the next x, and how many characters are not listed if `counts`.
 pub fn draw_string(
     frame: &mut [u8],
     target: DrawTarget,
@@ -274,18 +419,34 @@ pub fn draw_string(
     font: MonoFont,
     style: MonoTextStyle,
     corner: Point,
-) -> u32
+    counts: bool,
+) -> DrawnLine
     requires { ⌜ Canvas target (length (now frame)) ⌝ }
     requires { ⌜ FontLimits font ⌝ }
     requires { ⌜ WithinLimit (now mapping) ⌝ }
     requires { ⌜ PlaceLimits (length (now text)) (corner .x) (corner .y) ⌝ }
     ensures { λ _. ⌜ now (frame .exit) ≡ paintOn target (string (fontOf font (now (atlas .entry)) (now (mapping .entry))) style (now (text .entry)) (corner .x) (corner .y)) (now (frame .entry)) ⌝ }
-    ensures { λ r. ⌜ r ≡ corner .x + advance font style (length (chars (now (text .entry)))) ⌝ }
+    ensures { λ r. ⌜ r .next ≡ corner .x + advance font style (length (chars (now (text .entry)))) ⌝ }
+    ensures { λ r. ⌜ r .replaced ≡ cond counts (unlisted (now (mapping .entry)) (chars (now (text .entry)))) 0 ⌝ }
 {
-    let next = draw_characters(frame, target, atlas, mapping, text, font, style, corner);
-    let width = next - corner.x;
+    let drawn = draw_characters(
+        frame,
+        target,
+        atlas,
+        mapping,
+        text,
+        font,
+        style,
+        corner,
+        counts,
+    );
+    let width = drawn.next - corner.x;
     draw_decorations(frame, target, font, style, corner, width);
-    next
+    let replaced = only_if(counts, drawn.replaced);
+    DrawnLine {
+        next: drawn.next,
+        replaced,
+    }
 }
 
 // Draws whitespace of a width from `corner` on; gives the next x.

@@ -1,4 +1,4 @@
--- `find`, `index_with`, `contains` and `check_mapping`: a law for each fact that they need, where x is the entry at a position. Assumes nothing.
+-- `find`, `glyph_with`, `glyph_of` and `check_mapping`: a law for each fact that they need, where x is the entry at a position. Assumes nothing.
 use mathlib.Core.Path.{_≡_, refl, sym, _∙_, ap}
 use mathlib.Core.Logic.{_⊎_, ⊎-elim}
 use mathlib.Core.Bool.{Bool, true, false, cond, and-eq-true-iff, true≢false}
@@ -19,11 +19,12 @@ use Rattle.mapping.specs.declared.Entry.{Entry}
 use Rattle.mapping.specs.declared.Entry.the-variants as entry
 use Rattle.mapping.specs.declared.Found.{Found}
 use Rattle.mapping.specs.declared.Found.the-variants.{At, Nothing}
+use Rattle.mapping.specs.declared.Glyph.{Glyph}
 use Rattle.mapping.specs.declared.Start.{Start}
 use Rattle.mapping.specs.declared.search.Passed.{Passed}
 use Rattle.mapping.specs.Search.{SkipsBelow, StartOf}
-use Rattle.mapping.specs.Entries.{entryAt, afterEntry, inRange, atMost, stopRefusal, ListFrom, WithinLimit}
-use Rattle.mapping.specs.Mapping.{fromTo, spelled, listOf, placeFrom, placeOr, isFound, refusal}
+use Rattle.mapping.specs.Entries.{entryAt, afterEntry, inRange, atMost, glyphAt, stopRefusal, ListFrom, WithinLimit}
+use Rattle.mapping.specs.Mapping.{fromTo, spelled, listOf, placeFrom, isFound, refusal}
 use Rattle.mapping.proofs.Ranges.{length-range-le, length-range-through, place-in, place-past}
 use Rattle.mapping.proofs.Entries.{entry-range, entry-stopped, entry-ill-formed, entry-end, stopped-entry}
 
@@ -90,8 +91,9 @@ module _ (s : List ℕ) (at : ℕ) {x : Entry} (e : x ≡ entryAt s at) {start e
       pub first-fits : (p : ℕ) → p ≡ length (fromTo start ch) → ch < 2 ^ 32 → Fits w32 (p - 1)
       first-fits p z h = let l = length-range-le start ch in omega arith
 
-      pub index-first : (replacement p : ℕ) → p ≡ length (fromTo start ch) → p - 1 ≡ placeOr replacement (placeFrom 0 ch (spelled (charsFrom s at)))
-      index-first replacement p z = rw (found-place 0 p z) (omega arith)
+      pub glyph-first : (replacement p i : ℕ) → p ≡ length (fromTo start ch) → i ≡ p - 1
+          → record { index = i; listed = true } ≡ glyphAt replacement (placeFrom 0 ch (spelled (charsFrom s at)))
+      glyph-first replacement p i z j = let k : i ≡ 0 + p - 1 = omega arith in rw (found-place 0 p z, k)
 
       pub found-at : (most k p j : ℕ) (f : Found) → p ≡ length (fromTo start ch) → j ≡ min (k + p - 1) most
           → atMost most (placeFrom k ch (spelled (charsFrom s at))) ≡ f → At j ≡ f
@@ -138,9 +140,9 @@ module _ (s : List ℕ) (at : ℕ) {x : Entry} (e : x ≡ entryAt s at) (t : (ta
   unfolding placeFrom
   find-stopped most k ch f h = rw (entry-stopped s at e t) at h
 
-  pub index-stopped : (replacement ch : ℕ) → replacement ≡ placeOr replacement (placeFrom 0 ch (spelled (charsFrom s at)))
+  pub glyph-stopped : (replacement ch : ℕ) → record { index = replacement; listed = false } ≡ glyphAt replacement (placeFrom 0 ch (spelled (charsFrom s at)))
   unfolding placeFrom
-  index-stopped replacement ch = rw (entry-stopped s at e t)
+  glyph-stopped replacement ch = rw (entry-stopped s at e t)
 
   pub check-stopped : (k r : ℕ) → k ≤ 65_537 → wellFormedFrom s at ≡ wellFormedFrom s 0
       → min (k + length (spelled (charsFrom s at))) 65_537 ≡ min (length (listOf s)) 65_537 → r ≡ stopRefusal x k → r ≡ refusal s
@@ -180,28 +182,24 @@ pub start-below : (s : List ℕ) (x : Start) → StartOf s x → {start end : �
     → SkipsBelow s (x .lead) (c .at) (x .passed)
 start-below s x g q = rw (after-range q) (g .passed)
 
--- ---- `index_with` and `contains`
+-- ---- `glyph_with` and `glyph_of`
 
-pub index-at : (m : List ℕ) (replacement ch i : ℕ) (f : Found) → WithinLimit m → f ≡ atMost 65_536 (placeFrom 0 ch (listOf m)) → f ≡ At i
-    → i ≡ placeOr replacement (placeFrom 0 ch (listOf m))
-index-at m replacement ch i f h e q = by (placeFrom 0 ch (listOf m)) refl e
+pub glyph-listed : (m : List ℕ) (replacement ch i : ℕ) (f : Found) → WithinLimit m → f ≡ atMost 65_536 (placeFrom 0 ch (listOf m)) → f ≡ At i
+    → record { index = i; listed = true } ≡ glyphAt replacement (placeFrom 0 ch (listOf m))
+glyph-listed m replacement ch i f h e q = by (placeFrom 0 ch (listOf m)) refl e
   where
-    by : (g : Found) → placeFrom 0 ch (listOf m) ≡ g → f ≡ atMost 65_536 g → i ≡ placeOr replacement g
+    by : (g : Found) → placeFrom 0 ch (listOf m) ≡ g → f ≡ atMost 65_536 g → record { index = i; listed = true } ≡ glyphAt replacement g
     by (At k) p e =
         let j : i ≡ min k 65_536 = cc in
         let b = place-below 0 ch (listOf m) p in
         let l = h .spelled in
-        omega arith
+        let z : i ≡ k = omega arith in
+        rw z
     by Nothing p e = absurd (let z : _≡_ {A = ℕ} 0 1 = cc in omega arith)
 
-pub index-nothing : (replacement : ℕ) (f g : Found) → f ≡ atMost 65_536 g → f ≡ Nothing → replacement ≡ placeOr replacement g
-index-nothing replacement f (At k) e q = absurd (let z : _≡_ {A = ℕ} 0 1 = cc in omega arith)
-index-nothing replacement f Nothing e q = refl
+pub glyph-unlisted : (replacement : ℕ) (f g : Found) → f ≡ atMost 65_536 g → f ≡ Nothing → record { index = replacement; listed = false } ≡ glyphAt replacement g
+glyph-unlisted replacement f (At k) e q = absurd (let z : _≡_ {A = ℕ} 0 1 = cc in omega arith)
+glyph-unlisted replacement f Nothing e q = refl
 
-pub contains-at : (i : ℕ) (f g : Found) → f ≡ atMost 65_536 g → f ≡ At i → true ≡ isFound g
-contains-at i f (At k) e q = refl
-contains-at i f Nothing e q = absurd (let z : _≡_ {A = ℕ} 0 1 = cc in omega arith)
-
-pub contains-nothing : (f g : Found) → f ≡ atMost 65_536 g → f ≡ Nothing → false ≡ isFound g
-contains-nothing f (At k) e q = absurd (let z : _≡_ {A = ℕ} 0 1 = cc in omega arith)
-contains-nothing f Nothing e q = refl
+pub glyph-found : (replacement : ℕ) (f : Found) (g : Glyph) → g ≡ glyphAt replacement f → g .listed ≡ isFound f
+glyph-found replacement f g e = ap (λ (h : Glyph). h .listed) e

@@ -15,7 +15,8 @@ use Rattle.mapping.specs.declared.Entry.{Entry}
 use Rattle.mapping.specs.declared.Entry.the-variants as entry
 use Rattle.mapping.specs.declared.Found.{Found}
 use Rattle.mapping.specs.declared.Found.the-variants.{At, Nothing}
-use Rattle.mapping.specs.Mapping.{listOf}
+use Rattle.mapping.specs.declared.Glyph.{Glyph}
+use Rattle.mapping.specs.Mapping.{listOf, placeOr, isFound}
 
 -- where no character stands, there is no entry
 unfoldable pub stopOf : Step → Entry
@@ -61,6 +62,10 @@ scalarsBelow v = cond (ltb v 0xD800) v (cond (ltb v 0xE000) 0xD800 (v - 0x800))
 abbrev pub atMost : ℕ → Found → Found
 atMost most (At k) = At (min k most)
 atMost most Nothing = Nothing
+
+-- the glyph of a character that stands at a position, or nowhere
+abbrev pub glyphAt : ℕ → Found → Glyph
+glyphAt other place = record { index = placeOr other place; listed = isFound place }
 
 -- the refusal of a mapping whose entries stop after `count` characters
 unfoldable pub stopRefusal : Entry → ℕ → ℕ

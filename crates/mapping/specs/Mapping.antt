@@ -9,6 +9,7 @@ use Rattle.characters.specs.Utf8.{isSurrogate, chars, wellFormed}
 use Rattle.characters.specs.Refusal.{need}
 use Rattle.mapping.specs.declared.Found.{Found}
 use Rattle.mapping.specs.declared.Found.the-variants.{At, Nothing}
+use Rattle.mapping.specs.declared.Glyph.{Glyph}
 
 -- the n numbers from a on, "surrogates skipped"
 unfoldable pub scalarsFrom : ℕ → ℕ → List ℕ
@@ -51,6 +52,10 @@ index mapping replacement ch = placeOr replacement (placeFrom 0 ch (listOf mappi
 -- "`contains` says if it is listed"
 abbrev pub contains : List ℕ → ℕ → Bool
 contains mapping ch = isFound (placeFrom 0 ch (listOf mapping))
+
+-- what a lookup answers: "The glyph lookup .. must also say whether the character was listed"
+abbrev pub glyph : List ℕ → ℕ → ℕ → Glyph
+glyph mapping replacement ch = record { index = index mapping replacement ch; listed = contains mapping ch }
 
 -- refusals 7 and 8: "a mapping spells ≤ 65,536 characters"
 unfoldable pub refusal : List ℕ → ℕ

@@ -7,7 +7,7 @@ ghost use Prim.Native.Nat.{_-_, _≤_, min};
 ghost use lib.ListN.{length};
 ghost use Rattle.characters.specs.Utf8.{charsFrom};
 ghost use Rattle.mapping.specs.Entries.{entryAt, afterEntry, stopOf, inRange, scalarsBelow, atMost, stopRefusal, ListFrom, WithinLimit};
-ghost use Rattle.mapping.specs.Mapping.{fromTo, spelled, placeFrom, index, contains, refusal};
+ghost use Rattle.mapping.specs.Mapping.{fromTo, spelled, placeFrom, glyph, contains, refusal};
 ghost use Rattle.mapping.specs.Search.{SkipsBelow, StartOf, Resumes};
 
 pub mod search;
@@ -24,6 +24,12 @@ pub enum Entry {
 pub enum Found {
     At(u32),
     Nothing,
+}
+
+// The glyph of a character: its index, and whether the mapping lists the character.
+pub struct Glyph {
+    pub index: u32,
+    pub listed: bool,
 }
 
 // Where the search in a mapping starts for the characters of a text: the mapping's first entry, and what is passed over after it
@@ -201,46 +207,58 @@ pub fn start_of(mapping: &[u8], text: &[u8]) -> Start
     }
 }
 
-// The first position of a character in a mapping that the check accepts, else the replacement. Where the search starts is given,
-// so that a character of the first range is found without a step over the bytes.
-pub fn index_with(mapping: &[u8], start: Start, replacement: u32, ch: u32) -> u32
+// The glyph of a character by a mapping that the check accepts: its first position, else the replacement. Where the search starts is
+// given, so that a character of the first range is found without a step over the bytes.
+pub fn glyph_with(mapping: &[u8], start: Start, replacement: u32, ch: u32) -> Glyph
     requires { ⌜ WithinLimit (now mapping) ⌝ }
     requires { ⌜ StartOf (now mapping) start ⌝ }
-    ensures { λ r. ⌜ r ≡ index (now (mapping .entry)) replacement ch ⌝ }
+    ensures { λ r. ⌜ r ≡ glyph (now (mapping .entry)) replacement ch ⌝ }
 {
     let first = start.first;
     let Entry::Range(low, high, after) = first else {
-        return replacement;
+        return Glyph {
+            index: replacement,
+            listed: false,
+        };
     };
     if in_range(low, high, ch) {
         let through = range_len(low, ch);
-        return (through - 1) as u32;
+        let index = (through - 1) as u32;
+        return Glyph {
+            index,
+            listed: true,
+        };
     }
     let len = at_most(range_len(low, high), 65536);
     let passed = start.passed;
     let from = resume(mapping, after.at, start.lead, passed, len, ch);
     let Found::At(place) = find(mapping, Cursor { at: from.at }, from.count, ch) else {
-        return replacement;
+        return Glyph {
+            index: replacement,
+            listed: false,
+        };
     };
-    place
+    Glyph {
+        index: place,
+        listed: true,
+    }
 }
 
 // The same, for a single character.
-pub fn index(mapping: &[u8], replacement: u32, ch: u32) -> u32
+pub fn glyph_of(mapping: &[u8], replacement: u32, ch: u32) -> Glyph
     requires { ⌜ WithinLimit (now mapping) ⌝ }
-    ensures { λ r. ⌜ r ≡ index (now (mapping .entry)) replacement ch ⌝ }
+    ensures { λ r. ⌜ r ≡ glyph (now (mapping .entry)) replacement ch ⌝ }
 {
-    let Entry::Range(low, high, _) = entry_at(mapping, Cursor { at: 0 }) else {
-        return replacement;
-    };
-    if in_range(low, high, ch) {
-        let count = range_len(low, ch);
-        return (count - 1) as u32;
-    }
     let Found::At(place) = find(mapping, Cursor { at: 0 }, 0, ch) else {
-        return replacement;
+        return Glyph {
+            index: replacement,
+            listed: false,
+        };
     };
-    place
+    Glyph {
+        index: place,
+        listed: true,
+    }
 }
 
 // Whether a mapping that the check accepts lists a character.
@@ -248,10 +266,8 @@ pub fn contains(mapping: &[u8], ch: u32) -> bool
     requires { ⌜ WithinLimit (now mapping) ⌝ }
     ensures { λ r. ⌜ r ≡ contains (now (mapping .entry)) ch ⌝ }
 {
-    let Found::At(_) = find(mapping, Cursor { at: 0 }, 0, ch) else {
-        return false;
-    };
-    true
+    let found = glyph_of(mapping, 0, ch);
+    found.listed
 }
 
 // The refusal where a mapping's entries stop, after so many characters.

@@ -1,11 +1,12 @@
 // The marked lines of docs/SHEET.md, Worked examples, that are not starred, and RFC 3629's examples. Each is a line of standard input: a kind, bytes in hexadecimal, `=` and a
-// name; and a line of output: the name, the bytes and what was found. The kinds are t, a text; m, a mapping; i, the index of a character (three bytes, the
+// name; and a line of output: the name, the bytes and what was found. The kinds are t, a text; m, a mapping; i, the glyph of a character (three bytes, the
 // highest first) in the mapping that follows, with replacement 9; s, a sheet. The marked line on the program is the stored test of `station_page`.
 use bytes::scan::find;
 use characters::Cursor;
 use characters::Step;
 use libc::STDIN_FILENO;
 use libc::STDOUT_FILENO;
+use mapping::Glyph;
 use numbers::byte_or_zero;
 use numbers::wide;
 ghost use Prim.Native.Nat.{_<_, _≤_};
@@ -88,22 +89,16 @@ fn show_mapping(mapping: &[u8]) {
     write_number(b" fits, lists ", listed(mapping) as u64);
 }
 
-// The index of a character in a mapping with replacement 9; 0 in a mapping that is refused.
-fn index_of(mapping: &[u8], ch: u32) -> u32 {
+// The glyph of a character in a mapping with replacement 9; index 0 and not listed in a mapping that is refused.
+fn glyph_in(mapping: &[u8], ch: u32) -> Glyph {
     let refusal = mapping::check_mapping(mapping);
     if refusal != 0 {
-        return 0;
+        return Glyph {
+            index: 0,
+            listed: false,
+        };
     }
-    mapping::index(mapping, 9, ch)
-}
-
-// Whether a mapping lists a character; no in a mapping that is refused.
-fn is_listed(mapping: &[u8], ch: u32) -> bool {
-    let refusal = mapping::check_mapping(mapping);
-    if refusal != 0 {
-        return false;
-    }
-    mapping::contains(mapping, ch)
+    mapping::glyph_of(mapping, 9, ch)
 }
 
 fn character_of(bytes: &[u8]) -> u32 {
@@ -113,15 +108,15 @@ fn character_of(bytes: &[u8]) -> u32 {
 }
 
 // The index of a character, and whether it is listed.
-fn show_index(bytes: &[u8]) {
+fn show_glyph(bytes: &[u8]) {
     if bytes.len() < 3 {
         return;
     }
     let ch = character_of(bytes);
-    let mapping = &bytes[3..];
+    let glyph = glyph_in(&bytes[3..], ch);
     write_hex(ch, 4);
-    write_number(b" is ", index_of(mapping, ch) as u64);
-    if is_listed(mapping, ch) {
+    write_number(b" is ", glyph.index as u64);
+    if glyph.listed {
         write(b", listed");
     }
 }
@@ -147,7 +142,7 @@ fn show(kind: u8, bytes: &[u8]) {
         return;
     }
     if kind == b'i' {
-        show_index(bytes);
+        show_glyph(bytes);
         return;
     }
     show_sheet(bytes);

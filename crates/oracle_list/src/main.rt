@@ -19,6 +19,8 @@ use replay::store;
 use replay::u16_of;
 use replay::u32_of;
 use station::Box;
+use station::Drawn;
+use station::Glyph;
 use station::Number;
 use station::Position;
 use station::Step;
@@ -124,12 +126,32 @@ fn number_reply(reply: Number) -> Box {
     }
 }
 
+fn glyph_reply(reply: Glyph) -> Box {
+    Box {
+        code: reply.code,
+        left: signed(reply.index),
+        top: signed(reply.listed),
+        width: 0,
+        height: 0,
+    }
+}
+
 fn position_reply(reply: Position) -> Box {
     Box {
         code: reply.code,
         left: reply.x,
         top: reply.y,
         width: 0,
+        height: 0,
+    }
+}
+
+fn drawn_reply(reply: Drawn) -> Box {
+    Box {
+        code: reply.code,
+        left: reply.x,
+        top: reply.y,
+        width: reply.replaced,
         height: 0,
     }
 }
@@ -155,7 +177,7 @@ fn ask(sheet: &[u8], kind: u8, call: &[u8]) -> Box {
         return code_reply(station::station_check(sheet));
     }
     if kind == 1 {
-        return number_reply(station::station_index(sheet, first, second));
+        return glyph_reply(station::station_index(sheet, first, second));
     }
     if kind == 2 {
         return number_reply(station::station_contains(sheet, first, second));
@@ -169,7 +191,7 @@ fn ask(sheet: &[u8], kind: u8, call: &[u8]) -> Box {
 // Makes a call that draws on the frame, or one that changes nothing.
 fn draw(sheet: &[u8], frame: &mut [u8], kind: u8, call: &[u8]) -> Box {
     if kind == 4 {
-        return position_reply(station::station_draw_item(sheet, frame, number_at(call, 1)));
+        return drawn_reply(station::station_draw_item(sheet, frame, number_at(call, 1)));
     }
     if kind == 5 {
         let width = number_at(call, 5);

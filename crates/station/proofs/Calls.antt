@@ -15,7 +15,8 @@ use Rattle.characters.specs.declared.Step.the-variants.{Character, IllFormed, E
 use Rattle.characters.specs.Refusal.{unlessRefused}
 use Rattle.characters.specs.Utf8.{stepAt}
 use Rattle.mapping.specs.Entries.{WithinLimit}
-use Rattle.mapping.specs.Mapping.{index, contains}
+use Rattle.mapping.specs.declared.Glyph as Mapping
+use Rattle.mapping.specs.Mapping.{glyph, contains}
 use Rattle.line.specs.declared.MonoFont.{MonoFont}
 use Rattle.sheet.specs.Fields.{frameWidth, frameHeight, fontAt, mappingBytes}
 use Rattle.bdf.specs.declared.Outcome.{Outcome}
@@ -24,13 +25,15 @@ use Rattle.bdf.specs.Font.{fontOf, fontBytes, readCode, outcomeOf, outcome}
 use Rattle.records.specs.Records.{monoFont, font}
 use Rattle.drawing.proofs.Readings.{mapping-limit}
 use Rattle.calls.specs.declared.Number.{Number}
+use Rattle.calls.specs.declared.Glyph.{Glyph}
 use Rattle.calls.specs.declared.Position.{Position}
+use Rattle.calls.specs.declared.Drawn.{Drawn}
 use Rattle.calls.specs.declared.Box.{Box}
 use Rattle.calls.specs.declared.Step.{Step}
 use Rattle.page.specs.Page.{pageHeader}
 use Rattle.page.specs.Room.{PageFits}
-use Rattle.calls.specs.Calls.{netpbm, numberReply, positionReply, boxReply, yesNo, fontCode, indexReply, containsReply, pageCode, pageReply, pageOutput, readBdfReply, stepReply, walkReply}
-use Rattle.calls.specs.Replies.{refusedNumber, refusedPosition, refusedBox}
+use Rattle.calls.specs.Calls.{netpbm, numberReply, positionReply, drawnReply, boxReply, yesNo, glyphReply, fontCode, indexReply, containsReply, pageCode, pageReply, pageOutput, readBdfReply, stepReply, walkReply}
+use Rattle.calls.specs.Replies.{refusedNumber, refusedGlyph, refusedPosition, refusedDrawn, refusedBox}
 use Rattle.page.proofs.Pages.{length-page-le}
 use Rattle.calls.proofs.Refusals.{font-listed, page-framed, page-accepted, page-in}
 
@@ -50,9 +53,17 @@ module _ (n code : ℕ) (e : n ≡ code) where
   unfolding numberReply
   number-refused r v h q = q ∙ rw (← e, positive n h)
 
+  pub glyph-refused : (r : Glyph) (g : Mapping.Glyph) → (n ≡ 0 → ⊥) → r ≡ refusedGlyph n → r ≡ glyphReply code g
+  unfolding glyphReply
+  glyph-refused r g h q = q ∙ rw (← e, positive n h)
+
   pub position-refused : (r : Position) (p : Point) → (n ≡ 0 → ⊥) → r ≡ refusedPosition n → r ≡ positionReply code p
   unfolding positionReply
   position-refused r p h q = q ∙ rw (← e, positive n h)
+
+  pub drawn-refused : (r : Drawn) (p : Point) (k : ℕ) → (n ≡ 0 → ⊥) → r ≡ refusedDrawn n → r ≡ drawnReply code p k
+  unfolding drawnReply
+  drawn-refused r p k h q = q ∙ rw (← e, positive n h)
 
   pub box-refused : (r : Box) (a : Rectangle) → (n ≡ 0 → ⊥) → r ≡ refusedBox n → r ≡ boxReply code a
   unfolding boxReply
@@ -65,6 +76,9 @@ module _ (n code : ℕ) (e : n ≡ code) where
   pub position-done : (r : Position) (p q : Point) → n ≡ 0 → r ≡ positionReply 0 p → p ≡ q → r ≡ positionReply code q
   position-done r p q z h d = rw (← e, z, ← d) h
 
+  pub drawn-done : (r : Drawn) (p q : Point) (j k : ℕ) → n ≡ 0 → r ≡ drawnReply 0 p j → p ≡ q → j ≡ k → r ≡ drawnReply code q k
+  drawn-done r p q j k z h d c = rw (← e, z, ← d, ← c) h
+
   pub box-done : (r : Box) (a d : Rectangle) → n ≡ 0 → r ≡ boxReply 0 a → a ≡ d → r ≡ boxReply code d
   box-done r a d z q f = rw (← e, z, ← f) q
 
@@ -74,19 +88,14 @@ module _ (b : List ℕ) (k n : ℕ) (e : n ≡ fontCode b k) (z : n ≡ 0) (m : 
   pub mapping-within : WithinLimit m
   mapping-within = mapping-limit b k k m (font-listed b n z k e) em
 
-  pub index-done : (mono : MonoFont) (ch r : ℕ) → mono ≡ monoFont b (fontAt k) → r ≡ index m (mono .«replacement_index») ch → _≡_ {A = Number} (record { code = 0; value = r }) (indexReply b k ch)
-  unfolding indexReply font
-  index-done mono ch r en q = number-done n (fontCode b k) e r _ z (q ∙ rw (em, en))
+  pub index-done : (mono : MonoFont) (ch v : ℕ) (g : Mapping.Glyph) → mono ≡ monoFont b (fontAt k) → g ≡ glyph m (mono .«replacement_index») ch → v ≡ yesNo (g .listed)
+      → _≡_ {A = Glyph} (record { code = 0; index = g .index; listed = v }) (indexReply b k ch)
+  unfolding indexReply glyphReply font
+  index-done mono ch v g en q d = rw (d, q, em, en, ← e, z)
 
-  pub contains-done : (ch : ℕ) (t : Bool) → t ≡ contains m ch → _≡_ {A = Number} (record { code = 0; value = yesNo t }) (containsReply b k ch)
+  pub contains-done : (ch v : ℕ) (t : Bool) → t ≡ contains m ch → v ≡ yesNo t → _≡_ {A = Number} (record { code = 0; value = v }) (containsReply b k ch)
   unfolding containsReply font
-  contains-done ch t q = number-done n (fontCode b k) e (yesNo t) _ z (rw (q, em))
-
-  pub contains-yes : (ch : ℕ) (t : Bool) → t ≡ contains m ch → t ≡ true → _≡_ {A = Number} (record { code = 0; value = 1 }) (containsReply b k ch)
-  contains-yes ch t q h = rw h at (contains-done ch t q)
-
-  pub contains-no : (ch : ℕ) (t : Bool) → t ≡ contains m ch → t ≡ false → _≡_ {A = Number} (record { code = 0; value = 0 }) (containsReply b k ch)
-  contains-no ch t q h = rw h at (contains-done ch t q)
+  contains-done ch v t q d = number-done n (fontCode b k) e v _ z (rw (d, q, em))
 
 -- ---- station_write_page
 

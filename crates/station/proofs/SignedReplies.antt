@@ -16,9 +16,9 @@ use Rattle.characters.proofs.Refusals.{need-zero, orElse-zero}
 use Rattle.drawing.specs.Drawing.{pixelCount}
 use Rattle.drawing.proofs.Exact.{Bytes, SheetExact, sheet-exact}
 use Rattle.drawing.proofs.EditedExact.{EditBytes, edit-exact}
-use Rattle.calls.specs.Calls.{isThere, fits, positionReply, boxReply, itemCode, boundingBoxReply, drawItemCode, drawItemReply, whitespaceCode, whitespaceReply, editCode, editReply, onSheetCode, onSheetReply}
+use Rattle.calls.specs.Calls.{isThere, fits, positionReply, drawnReply, boxReply, itemCode, boundingBoxReply, drawItemCode, drawItemReply, whitespaceCode, whitespaceReply, editCode, editReply, onSheetCode, onSheetReply}
 use Rattle.station.specs.SignedReplies
-use Rattle.station.specs.SignedReplies.{positionOf, boxOf}
+use Rattle.station.specs.SignedReplies.{positionOf, drawnOf, boxOf}
 
 -- ---- a reply, if a code of 0 makes its numbers exact
 
@@ -26,6 +26,11 @@ position-exact : (code : ℕ) (p : Point) (s : SignedPoint) → (code ≡ 0 → 
 unfolding positionReply
 position-exact zero p s e = ap (positionOf 0) (e refl)
 position-exact (suc code) p s e = refl
+
+drawn-exact : (code : ℕ) (p : Point) (s : SignedPoint) (n : ℕ) → (code ≡ 0 → signedPoint p ≡ s) → drawnReply code p n ≡ drawnOf code s n
+unfolding drawnReply
+drawn-exact zero p s n e = ap (λ q. drawnOf 0 q n) (e refl)
+drawn-exact (suc code) p s n e = refl
 
 box-exact : (code : ℕ) (a : Rectangle) (s : SignedRectangle) → (code ≡ 0 → signedRectangle a ≡ s) → boxReply code a ≡ boxOf code s
 unfolding boxReply
@@ -53,7 +58,7 @@ module _ (b : List ℕ) (bytes : Bytes b) where
   pub replies-exact : RepliesExact b
   unfolding drawItemReply drawItemCode whitespaceReply whitespaceCode boundingBoxReply itemCode editReply editCode onSheetReply onSheetCode
   replies-exact = record {
-    draw-item = λ frame n. position-exact (drawItemCode b frame n) _ _ (λ z. let c = orElse-zero (check b) _ z in listed-exact n 0 (c .0) (framed frame _ (c .1)) .text .next);
+    draw-item = λ frame n. drawn-exact (drawItemCode b frame n) _ _ _ (λ z. let c = orElse-zero (check b) _ z in listed-exact n 0 (c .0) (framed frame _ (c .1)) .text .next);
     whitespace = λ frame n width. position-exact (whitespaceCode b frame n width) _ _ (λ z. let c = orElse-zero (check b) _ z in listed-exact n _ (c .0) (framed frame _ (c .1)) .whitespace-next width);
     bounding-box = λ n. box-exact (itemCode b n) _ _ (λ z. let c = orElse-zero (check b) _ z in listed-exact n 0 (c .0) (c .1) .text .bounding-box);
     edit = λ frame e s. box-exact (editCode b frame e) _ _ (λ z. let c = orElse-zero (check b) _ z in edit-exact b e bytes s (c .0) (framed frame _ (c .1)) .rectangle);

@@ -5,11 +5,14 @@ use Prim.Native.Nat.{ℕ}
 use mathlib.Core.List.{List}
 use lib.IntN.{pos}
 use Rattle.characters.specs.Refusal.{unlessRefused}
+use Rattle.text.specs.Text.{replaced}
 use Rattle.text.specs.Signed.{SignedPoint, SignedRectangle, next, boundingBox}
+use Rattle.records.specs.Records
 use Rattle.records.specs.Records.{itemFont}
 use Rattle.sheet.specs.Edits.{Edit, itemNumber, edited}
 use Rattle.drawing.specs.SignedSheet.{item, whitespaceNext, damage}
 use Rattle.calls.specs.declared.Position.{Position}
+use Rattle.calls.specs.declared.Drawn.{Drawn}
 use Rattle.calls.specs.declared.Box.{Box}
 use Rattle.calls.specs.Calls.{itemCode, drawItemCode, whitespaceCode, editCode, onSheetCode}
 
@@ -17,6 +20,9 @@ use Rattle.calls.specs.Calls.{itemCode, drawItemCode, whitespaceCode, editCode,
 
 abbrev pub positionOf : ℕ → SignedPoint → Position
 positionOf code p = record { code = code; x = unlessRefused code (p .x) (pos 0); y = unlessRefused code (p .y) (pos 0) }
+
+abbrev pub drawnOf : ℕ → SignedPoint → ℕ → Drawn
+drawnOf code p n = record { code = code; x = unlessRefused code (p .x) (pos 0); y = unlessRefused code (p .y) (pos 0); replaced = unlessRefused code n 0 }
 
 abbrev pub boxOf : ℕ → SignedRectangle → Box
 boxOf code a = record {
@@ -27,8 +33,8 @@ boxOf code a = record {
   height = unlessRefused code (a .height) 0;
 }
 
-abbrev pub drawItemReply : List ℕ → List ℕ → ℕ → Position
-drawItemReply b frame n = positionOf (drawItemCode b frame n) (next (itemFont b n .mono) (item b n))
+abbrev pub drawItemReply : List ℕ → List ℕ → ℕ → Drawn
+drawItemReply b frame n = drawnOf (drawItemCode b frame n) (next (itemFont b n .mono) (item b n)) (replaced (itemFont b n) (Records.item b n))
 
 abbrev pub whitespaceReply : List ℕ → List ℕ → ℕ → ℕ → Position
 whitespaceReply b frame n width = positionOf (whitespaceCode b frame n width) (whitespaceNext (item b n) width)

@@ -2,6 +2,8 @@
 // number for a code and zeros, and leaves sheet, frame and output as they were.
 use bdf::Outcome;
 pub use calls::Box;
+pub use calls::Drawn;
+pub use calls::Glyph;
 pub use calls::Number;
 pub use calls::Position;
 pub use calls::Step;
@@ -18,10 +20,14 @@ use calls::codes::text_code;
 use calls::codes::text_on_sheet_code;
 use calls::codes::whitespace_code;
 use calls::replies::box_reply;
+use calls::replies::drawn_reply;
 use calls::replies::position_reply;
 use calls::replies::refused_box;
+use calls::replies::refused_drawn;
+use calls::replies::refused_glyph;
 use calls::replies::refused_number;
 use calls::replies::refused_position;
+use calls::replies::yes_no;
 use characters::Step as Walked;
 use characters::walker::walk_from;
 use drawing::damage::place_damage;
@@ -51,21 +57,22 @@ pub extern "C" fn station_check(sheet: &[u8]) -> u32
     sheet::check(sheet)
 }
 
-// The index of a character's glyph in a font.
+// The index of a character's glyph in a font, and 1 if the font's mapping lists the character, else 0.
 #[no_mangle]
-pub extern "C" fn station_index(sheet: &[u8], font: u32, character: u32) -> Number
+pub extern "C" fn station_index(sheet: &[u8], font: u32, character: u32) -> Glyph
     ensures { λ r. ⌜ r ≡ indexReply (now (sheet .entry)) font character ⌝ }
 {
     let code = font_code(sheet, font);
     if code != 0 {
-        return refused_number(code);
+        return refused_glyph(code);
     }
     let mono = font_at(sheet, font);
     let mapping = mapping_bytes(sheet, font);
-    let index = mapping::index(mapping, mono.replacement_index, character);
-    Number {
+    let glyph = mapping::glyph_of(mapping, mono.replacement_index, character);
+    Glyph {
         code: 0,
-        value: index,
+        index: glyph.index,
+        listed: yes_no(glyph.listed),
     }
 }
 
@@ -79,10 +86,8 @@ pub extern "C" fn station_contains(sheet: &[u8], font: u32, character: u32) -> N
         return refused_number(code);
     }
     let mapping = mapping_bytes(sheet, font);
-    if mapping::contains(mapping, character) {
-        return Number { code: 0, value: 1 };
-    }
-    Number { code: 0, value: 0 }
+    let value = yes_no(mapping::contains(mapping, character));
+    Number { code: 0, value }
 }
 
 // The measured box of an item.
@@ -98,18 +103,19 @@ pub extern "C" fn station_bounding_box(sheet: &[u8], item: u32) -> Box
     box_reply(area)
 }
 
-// Draws an item on the frame; gives the next position.
+// Draws an item on the frame; gives the next position, and how many characters of its lines the font's mapping does not list.
 #[no_mangle]
-pub extern "C" fn station_draw_item(sheet: &[u8], frame: &mut [u8], item: u32) -> Position
+pub extern "C" fn station_draw_item(sheet: &[u8], frame: &mut [u8], item: u32) -> Drawn
     ensures { λ r. ⌜ r ≡ drawItemReply (now (sheet .entry)) (now (frame .entry)) item ⌝ }
     ensures { λ _. ⌜ now (frame .exit) ≡ drawItemFrame (now (sheet .entry)) (now (frame .entry)) item ⌝ }
 {
     let code = draw_item_code(sheet, &frame[..], item);
     if code != 0 {
-        return refused_position(code);
+        return refused_drawn(code);
     }
-    let next = drawing::draw_item(sheet, frame, item);
-    position_reply(next)
+    let drawn = drawing::draw_item(sheet, frame, item);
+    let next = drawn.next;
+    drawn_reply(next, drawn.replaced)
 }
 
 // Draws whitespace of a width at an item's place on the frame; gives the next position.

@@ -1,6 +1,6 @@
-// Reads a sheet from standard input; writes a line for each item: its number, the left, top, width and height of its measured box, and the
-// x and y of its next position. For a sheet that is refused it writes `refused`, its number and a feed. Where not all lines were written,
-// standard error says so.
+// Reads a sheet from standard input; writes a line for each item: its number, the left, top, width and height of its measured box, the
+// x and y of its next position, and how many of its characters are replaced. For a sheet that is refused it writes `refused`, its number and a
+// feed. Where not all lines were written, standard error says so.
 use libc::STDERR_FILENO;
 use libc::STDIN_FILENO;
 use libc::STDOUT_FILENO;
@@ -10,7 +10,7 @@ use programs::write_refused;
 use programs::write_signed;
 use sheet::fields::item_count;
 use station::Box;
-use station::Position;
+use station::Drawn;
 use station::station_bounding_box;
 use station::station_check;
 use station::station_draw_item;
@@ -22,16 +22,17 @@ fn write_box(area: Box) {
     write_number(area.height as u64);
 }
 
-fn write_position(next: Position) {
-    write_signed(next.x);
-    write_signed(next.y);
+fn write_drawn(drawn: Drawn) {
+    write_signed(drawn.x);
+    write_signed(drawn.y);
+    write_number(drawn.replaced as u64);
 }
 
 // Writes an item's line; gives whether its end was written.
 fn write_item(sheet: &[u8], frame: &mut [u8], item: u32) -> bool {
     io::print_decimal(STDOUT_FILENO, item as u64);
     write_box(station_bounding_box(sheet, item));
-    write_position(station_draw_item(sheet, frame, item));
+    write_drawn(station_draw_item(sheet, frame, item));
     io::write_all(STDOUT_FILENO, b"\n")
 }
 

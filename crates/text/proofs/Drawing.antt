@@ -1,8 +1,9 @@
--- A text drawn line by line: what is drawn and what is left at each line. Assumes nothing.
+-- A text drawn line by line: what is drawn, counted and left at each line. Assumes nothing.
 use Prim.Native.Nat.{ℕ, _+_, _-_, _<_, _≤_}
 use native.Mathlib.Omega.{arith}
 use mathlib.Core.Path.{_≡_, refl, sym, ap, _∙_}
-use mathlib.Core.List.{List}
+use mathlib.Core.Bool.{Bool, true, false, cond}
+use mathlib.Core.List.{List, [], _∷_}
 use lib.ListN.{length, take, drop}
 use Rattle.geometry.specs.declared.Point.{Point}
 use Rattle.geometry.specs.declared.DrawTarget.{DrawTarget}
@@ -12,14 +13,15 @@ use Rattle.characters.specs.Utf8.{chars}
 use Rattle.characters.specs.Lines.{lines, withoutReturn, lineLength, lineFrom}
 use Rattle.characters.proofs.Feeds.{line-part, lines-last, lines-more, lines-first}
 use Rattle.line.specs.declared.MonoFont.{MonoFont}
-use Rattle.line.specs.Line.{Font, fontOf, string, advance}
+use Rattle.line.specs.Line.{Font, fontOf, unlisted, string, advance}
 use Rattle.line.specs.Limits.{FontLimits}
 use Rattle.line.proofs.Painting.{paint-then}
 use Rattle.text.specs.declared.TextLayout.{TextLayout}
-use Rattle.text.specs.Text.{Text, PlacedLine, laidOut, lineHeight, placeLine, placeLines, placedLines, lineLayer, linesLayer, layer, lineNext, lastNext, next}
+use Rattle.text.specs.Text.{Text, PlacedLine, laidOut, lineHeight, placeLine, placeLines, placedLines, lineLayer, linesLayer, layer, lineNext, lastNext, next, lineReplaced, linesReplaced, replaced}
 use Rattle.text.specs.Lines.{lineCorner}
 use Rattle.text.specs.Limits.{TextLimits}
 use Rattle.text.proofs.Places.{LineStart, start-next}
+use Rattle.text.proofs.Replaced.{count-no-lines, count-lines, part-count, part-few}
 
 -- ---- `draw_line`: `corner` is the line's corner and `shown` its bytes without the return
 
@@ -35,6 +37,11 @@ module _ (t : TextLayout) (y : ℕ) (line shown : List ℕ) (corner : Point) (e 
   unfolding lineNext placeLine lineCorner
   line-next m r d p = rw (d, e) at p
 
+  pub line-count : (m : MonoFont) (mapping : List ℕ) (counts : Bool) (r : ℕ) → r ≡ cond counts (unlisted mapping (chars shown)) 0
+      → r ≡ cond counts (lineReplaced mapping (placeLine m (laidOut t line) line y)) 0
+  unfolding lineReplaced placeLine
+  line-count m mapping counts r p = rw e at p
+
 -- ---- `draw`
 
 -- there is always a line more, so what was the next position before it does not matter
@@ -42,7 +49,7 @@ next-any : (m : MonoFont) (t : Text) (p q : Point) (u : List ℕ) (y : ℕ) → 
 unfolding lastNext placeLines
 next-any m t p q u y = rw (lines-first u)
 
-module _ (target : DrawTarget) (f : Font) (text : List ℕ) (t : TextLayout) (frame₀ : List ℕ) where
+module _ (target : DrawTarget) (f : Font) (text : List ℕ) (t : TextLayout) (counts : Bool) (frame₀ : List ℕ) where
   abbrev whole : Text
   whole = laidOut t text
 
@@ -50,18 +57,24 @@ module _ (target : DrawTarget) (f : Font) (text : List ℕ) (t : TextLayout) (fr
   abbrev left : ℕ → ℕ → List PlacedLine
   left from y = placeLines (f .mono) whole (lines (drop from text)) y
 
-  -- the state of the loop at a line: the lines before it are drawn
-  pub record LinesDrawn (from y : ℕ) (frame : List ℕ) : Type 0 where
+  -- how many characters of a list of lines are counted
+  abbrev count : List PlacedLine → ℕ
+  count ls = cond counts (linesReplaced (f .mapping) ls) 0
+
+  -- the state of the loop at a line: the lines before it are drawn, and `n` of their characters are counted
+  pub record LinesDrawn (from y n : ℕ) (frame : List ℕ) : Type 0 where
     pub painted : paintOn target (linesLayer f whole (left from y)) frame ≡ paintOn target (layer f whole) frame₀
     pub position : lastNext (f .mono) whole (whole .position) (left from y) ≡ next (f .mono) whole
+    pub counted : n + count (left from y) ≡ cond counts (replaced f whole) 0
+    pub few : n ≤ from
     pub start : LineStart text (t .position .y) from y
     pub size : length frame ≡ length frame₀
 
-  pub lines-start : LinesDrawn 0 (t .position .y) frame₀
-  unfolding layer next placedLines
-  lines-start = record { painted = refl; position = refl; start = omega arith; size = refl }
+  pub lines-start : LinesDrawn 0 (t .position .y) 0 frame₀
+  unfolding layer next replaced placedLines
+  lines-start = record { painted = refl; position = refl; counted = omega arith; few = omega arith; start = omega arith; size = refl }
 
-  module _ (from end y : ℕ) (frame next-frame : List ℕ) (d : LinesDrawn from y frame) (e : end ≡ from + lineLength (drop from text))
+  module _ (from end y n : ℕ) (frame next-frame : List ℕ) (d : LinesDrawn from y n frame) (e : end ≡ from + lineLength (drop from text))
       (p : next-frame ≡ paintOn target (lineLayer f (laidOut t (take (end - from) (drop from text))) (placeLine (f .mono) (laidOut t (take (end - from) (drop from text))) (take (end - from) (drop from text)) y)) frame) where
     abbrev here : PlacedLine
     here = placeLine (f .mono) whole (lineFrom text from) y
@@ -74,17 +87,34 @@ module _ (target : DrawTarget) (f : Font) (text : List ℕ) (t : TextLayout) (fr
     unfolding linesLayer placeLines
     draw-last h = one-painted ∙ sym (rw (lines-last text from end (d .start .reach) e h)) ∙ d .painted
 
-    pub lines-step : (height : ℕ) → FontLimits (f .mono) → TextLimits (length text) (t .position .x) (t .position .y) (t .«text_style» .«line_height»)
-        → height ≡ lineHeight (f .mono) (t .«text_style» .«line_height») → end < length text → LinesDrawn (end + 1) (y + height) next-frame
+    pub lines-step : (height k : ℕ) → FontLimits (f .mono) → TextLimits (length text) (t .position .x) (t .position .y) (t .«text_style» .«line_height»)
+        → height ≡ lineHeight (f .mono) (t .«text_style» .«line_height») → end < length text
+        → k ≡ cond counts (lineReplaced (f .mapping) (placeLine (f .mono) (laidOut t (take (end - from) (drop from text))) (take (end - from) (drop from text)) y)) 0
+        → LinesDrawn (end + 1) (y + height) (n + k) next-frame
     unfolding linesLayer placeLines lastNext
-    lines-step height font limits h less =
+    lines-step height k font limits h less q =
         let l = lines-more text from end (d .start .reach) e less in
         record {
           painted = rw h (paint-then target _ _ frame next-frame _ one-painted refl ∙ sym (rw l) ∙ d .painted);
           position = rw h (next-any (f .mono) whole (whole .position) (lineNext (f .mono) whole here) (drop (end + 1) text) _ ∙ sym (rw l) ∙ d .position);
+          counted = rw h
+              (let i = part-count counts (f .mapping) (f .mono) t text from end y k e q in
+              let j = rw l at (d .counted) in
+              let s = count-lines counts (f .mapping) here (left (end + 1) (y + lineHeight (f .mono) (t .«text_style» .«line_height»))) in
+              omega arith);
+          few = let i = part-few counts (f .mapping) (f .mono) t text from end y k e q in omega arith;
           start = start-next text (t .position .x) (t .position .y) from end y height (f .mono) (t .«text_style» .«line_height») font limits (d .start) h e less;
           size = ap length one-painted ∙ length-paint (target .width) _ frame ∙ d .size;
         }
+
+    pub count-last : (k : ℕ) → length text ≤ end
+        → k ≡ cond counts (lineReplaced (f .mapping) (placeLine (f .mono) (laidOut t (take (end - from) (drop from text))) (take (end - from) (drop from text)) y)) 0
+        → n + k ≡ cond counts (replaced f whole) 0
+    unfolding placeLines
+    count-last k h q =
+        let i = part-count counts (f .mapping) (f .mono) t text from end y k e q in
+        let j = rw (lines-last text from end (d .start .reach) e h) at (d .counted) in
+        omega (arith, count-lines counts (f .mapping) here [], count-no-lines counts (f .mapping))
 
 -- the next position of the last line
 pub next-last : (m : MonoFont) (text : List ℕ) (t : TextLayout) (from end y r : ℕ) → LineStart text (t .position .y) from y → end ≡ from + lineLength (drop from text) → length text ≤ end

@@ -1,5 +1,6 @@
 pub mod Sources
 pub mod Places
+pub mod Replaced
 pub mod Drawing
 pub mod LineBoxes
 pub mod Lines

@@ -11,7 +11,7 @@ use Rattle.characters.specs.Utf8.{chars}
 use Rattle.characters.specs.Lines.{lines, withoutReturn}
 use Rattle.line.specs.declared.MonoFont.{MonoFont}
 use Rattle.line.specs.declared.MonoTextStyle.{MonoTextStyle}
-use Rattle.line.specs.Line.{Font, characterHeight, topEdge, string, advance, measuredWidth}
+use Rattle.line.specs.Line.{Font, characterHeight, topEdge, unlisted, string, advance, measuredWidth}
 use Rattle.line.specs.Line
 use Rattle.text.specs.declared.Alignment.{Alignment}
 use Rattle.text.specs.declared.Alignment.the-variants.{Left, Center, Right}
@@ -94,6 +94,18 @@ lastNext m t p (l ∷ ls) = lastNext m t (lineNext m t l) ls
 -- "`Text::draw` returns the last line's next position"
 unfoldable pub next : MonoFont → Text → Point
 next m t = lastNext m t (t .position) (placedLines m t)
+
+-- how many characters of a line the mapping does not list
+unfoldable pub lineReplaced : List ℕ → PlacedLine → ℕ
+lineReplaced mapping l = unlisted mapping (chars (l .text))
+
+unfoldable pub linesReplaced : List ℕ → List PlacedLine → ℕ
+linesReplaced mapping [] = 0
+linesReplaced mapping (l ∷ ls) = lineReplaced mapping l + linesReplaced mapping ls
+
+-- "how many characters of its lines, after the 0D is dropped, were not listed"
+unfoldable pub replaced : Font → Text → ℕ
+replaced f t = linesReplaced (f .mapping) (placedLines (f .mono) t)
 
 -- ---- boxes
 

@@ -10,16 +10,18 @@ use geometry::DrawTarget;
 use geometry::Point;
 use geometry::numbers::minus;
 use line::Baseline;
+use line::DrawnLine;
 use line::MonoFont;
 use line::MonoTextStyle;
 ghost use mathlib.Core.Path.{_≡_};
+ghost use mathlib.Core.Bool.{cond};
 ghost use lib.ListN.{length};
 ghost use Rattle.geometry.specs.Canvas.{Canvas, paintOn};
 ghost use Rattle.characters.specs.Utf8.{chars};
 ghost use Rattle.mapping.specs.Entries.{WithinLimit};
 ghost use Rattle.line.specs.Line.{fontOf, measuredWidth};
 ghost use Rattle.line.specs.Limits.{FontLimits};
-ghost use Rattle.text.specs.Text.{laidOut, alignedStart, lineHeight, placeLine, lineLayer, layer, lineNext, next};
+ghost use Rattle.text.specs.Text.{laidOut, alignedStart, lineHeight, placeLine, lineLayer, layer, lineNext, next, lineReplaced, replaced};
 ghost use Rattle.text.specs.Lines.{lineCorner};
 ghost use Rattle.text.specs.Limits.{TextLimits, HeightLimit, StartLimits, LineLimits};
 
@@ -50,6 +52,13 @@ pub struct TextLayout {
     pub position: Point,
     pub character_style: MonoTextStyle,
     pub text_style: TextStyle,
+}
+
+// What drawing a text gives: the next position of its last line, and how many characters of its lines the font's mapping does not
+// list, 0 if they are not counted.
+pub struct DrawnText {
+    pub next: Point,
+    pub replaced: u32,
 }
 
 // Where a line starts beside x; only an alignment that needs the line's width measures it.
@@ -96,7 +105,7 @@ fn line_corner(line: &[u8], font: MonoFont, text_style: TextStyle, x: u32, y: u3
     Point { x: left, y: top }
 }
 
-// Draws one line of a text at y, with its return if it has one; gives the next x.
+// Draws one line of a text at y, with its return if it has one; gives the next x, and the count.
 fn draw_line(
     frame: &mut [u8],
     target: DrawTarget,
@@ -106,22 +115,34 @@ fn draw_line(
     font: MonoFont,
     layout: TextLayout,
     y: u32,
-) -> u32
+    counts: bool,
+) -> DrawnLine
     requires { ⌜ Canvas target (length (now frame)) ⌝ }
     requires { ⌜ FontLimits font ⌝ }
     requires { ⌜ WithinLimit (now mapping) ⌝ }
     requires { ⌜ LineLimits (length (now line)) (layout .position .x) y ⌝ }
     ensures { λ _. ⌜ now (frame .exit) ≡ paintOn target (lineLayer (fontOf font (now (atlas .entry)) (now (mapping .entry))) (laidOut layout (now (line .entry))) (placeLine font (laidOut layout (now (line .entry))) (now (line .entry)) y)) (now (frame .entry)) ⌝ }
-    ensures { λ r. ⌜ r ≡ lineNext font (laidOut layout (now (line .entry))) (placeLine font (laidOut layout (now (line .entry))) (now (line .entry)) y) .x ⌝ }
+    ensures { λ r. ⌜ r .next ≡ lineNext font (laidOut layout (now (line .entry))) (placeLine font (laidOut layout (now (line .entry))) (now (line .entry)) y) .x ⌝ }
+    ensures { λ r. ⌜ r .replaced ≡ cond counts (lineReplaced (now (mapping .entry)) (placeLine font (laidOut layout (now (line .entry))) (now (line .entry)) y)) 0 ⌝ }
 {
     let shown = without_return(line);
     let text_style = layout.text_style;
     let corner = line_corner(line, font, text_style, layout.position.x, y);
     let style = layout.character_style;
-    line::draw_string(frame, target, atlas, mapping, shown, font, style, corner)
+    line::draw_string(
+        frame,
+        target,
+        atlas,
+        mapping,
+        shown,
+        font,
+        style,
+        corner,
+        counts,
+    )
 }
 
-// Draws a text; gives the next position of its last line.
+// Draws a text; gives the next position of its last line, and how many characters are not listed if `counts`.
 pub fn draw(
     frame: &mut [u8],
     target: DrawTarget,
@@ -130,22 +151,25 @@ pub fn draw(
     text: &[u8],
     font: MonoFont,
     layout: TextLayout,
-) -> Point
+    counts: bool,
+) -> DrawnText
     requires { ⌜ Canvas target (length (now frame)) ⌝ }
     requires { ⌜ FontLimits font ⌝ }
     requires { ⌜ WithinLimit (now mapping) ⌝ }
     requires { ⌜ TextLimits (length (now text)) (layout .position .x) (layout .position .y) (layout .«text_style» .«line_height») ⌝ }
     ensures { λ _. ⌜ now (frame .exit) ≡ paintOn target (layer (fontOf font (now (atlas .entry)) (now (mapping .entry))) (laidOut layout (now (text .entry)))) (now (frame .entry)) ⌝ }
-    ensures { λ r. ⌜ r ≡ next font (laidOut layout (now (text .entry))) ⌝ }
+    ensures { λ r. ⌜ r .next ≡ next font (laidOut layout (now (text .entry))) ⌝ }
+    ensures { λ r. ⌜ r .replaced ≡ cond counts (replaced (fontOf font (now (atlas .entry)) (now (mapping .entry))) (laidOut layout (now (text .entry)))) 0 ⌝ }
 {
     let text_style = layout.text_style;
     let kind = text_style.line_height;
     let height = line_height(font, kind);
     let mut from: usize = 0;
     let mut y = layout.position.y;
+    let mut replaced: u32 = 0;
     loop {
         let end = line_end(text, from);
-        let next = draw_line(
+        let drawn = draw_line(
             frame,
             target,
             atlas,
@@ -154,9 +178,12 @@ pub fn draw(
             font,
             layout,
             y,
+            counts,
         );
+        replaced = replaced + drawn.replaced;
         if text.len() <= end {
-            return Point { x: next, y };
+            let next = Point { x: drawn.next, y };
+            return DrawnText { next, replaced };
         }
         from = end + 1;
         y = y + height;

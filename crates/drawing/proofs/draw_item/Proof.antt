@@ -14,7 +14,7 @@ same-length : tie.Need-same-length
 same-length c = search needs
 
 returns : tie.Need-returns
-returns c = (search painted-whole, search needs)
+returns c = (search painted-whole, (search needs, search needs))
 
 pub draw-item-spec : {M : Type 1} → statement M
 draw-item-spec = tie.close (tie.spec frame-of-requires draw-item-in-requires same-length returns)

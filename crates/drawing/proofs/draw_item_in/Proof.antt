@@ -1,7 +1,7 @@
 -- What is read is the item and its font, so that what the text paints is what the item paints.
 use borrow.Author.Needs.{needs}
 use Rattle.records.proofs.Readings.{font-listed}
-use Rattle.drawing.proofs.Readings.{mapping-limit, item-limits, item-painted, item-next, canvas-read}
+use Rattle.drawing.proofs.Readings.{mapping-limit, item-limits, item-painted, item-next, item-replaced, canvas-read}
 use Rattle.drawing.proofs.draw_item_in.Statement.{statement}
 use Rattle.drawing.proofs.draw_item_in.Tie as tie
 
@@ -27,7 +27,7 @@ same-length : tie.Need-same-length
 same-length c = search needs
 
 returns : tie.Need-returns
-returns c = (search item-painted, search item-next)
+returns c = (search item-painted, (search item-next, search item-replaced))
 
 pub draw-item-in-spec : {M : Type 1} → statement M
 draw-item-in-spec =

@@ -1,23 +1,18 @@
--- `draw_character` meets its contract: what the target does not show changes nothing in it, and else the gap and the glyph are painted in turn. Assumes nothing.
+-- `draw_character` meets its contract: the gap and the glyph are painted in turn, and the lookup says whether the character is listed. Assumes nothing.
 use borrow.Author.Needs.{needs}
-use Rattle.line.proofs.Strings.{character-unshown, character-painted}
+use Rattle.line.proofs.Strings.{character-painted}
+use Rattle.line.proofs.Unlisted.{count-found}
 use Rattle.line.proofs.draw_character.Statement.{statement}
 use Rattle.line.proofs.draw_character.Tie as tie
 
-add-width : tie.Need-add-width
-add-width c = search needs
+glyph-with-requires : tie.Need-glyph-with-requires
+glyph-with-requires c κs = search needs
 
-disjoint-requires : tie.Need-disjoint-requires
-disjoint-requires c κs = search needs
-
-returns : tie.Need-returns
-returns c = search character-unshown
+count-on-requires : tie.Need-count-on-requires
+count-on-requires c κs = search needs
 
 fill-requires : tie.Need-fill-requires
 fill-requires c κs = search needs
-
-index-with-requires : tie.Need-index-with-requires
-index-with-requires c κs = search needs
 
 add-x : tie.Need-add-x
 add-x c = search needs
@@ -28,19 +23,17 @@ draw-glyph-requires c κs = search needs
 same-length : tie.Need-same-length
 same-length c = search needs
 
-returns-2 : tie.Need-returns-2
-returns-2 c = search character-painted
+returns : tie.Need-returns
+returns c = (search character-painted, search count-found)
 
 pub draw-character-spec : {M : Type 1} → statement M
 draw-character-spec =
     tie.close
     (tie.spec
-    add-width
-    disjoint-requires
-    returns
+    glyph-with-requires
+    count-on-requires
     fill-requires
-    index-with-requires
     add-x
     draw-glyph-requires
     same-length
-    returns-2)
+    returns)

@@ -1,47 +1,47 @@
--- `draw_characters` meets its contract: the walk paints the glyphs, and glyphs that are not walked change nothing in the clip. Assumes nothing.
+-- `draw_characters` meets its contract: glyphs that are not walked change nothing in the clip, and are then not asked for. Assumes nothing.
 use borrow.Author.Needs.{needs}
-use Rattle.line.proofs.Advances.{next-fits}
 use Rattle.line.proofs.Strings.{glyphs-unshown, advance-shown}
+use Rattle.line.proofs.Unlisted.{unasked, met-counted}
 use Rattle.line.proofs.draw_characters.Statement.{statement}
 use Rattle.line.proofs.draw_characters.Tie as tie
 
 shows-glyphs-requires : tie.Need-shows-glyphs-requires
 shows-glyphs-requires c κs = search needs
 
-cells-of-requires : tie.Need-cells-of-requires
-cells-of-requires c κs = search needs
+next-x-requires : tie.Need-next-x-requires
+next-x-requires c κs = search needs
 
-start-of-requires : tie.Need-start-of-requires
-start-of-requires c κs = search needs
+returns : tie.Need-returns
+returns c = (search glyphs-unshown, (search needs, search unasked))
 
-draw-glyphs-requires : tie.Need-draw-glyphs-requires
-draw-glyphs-requires c κs = (search needs, (search needs, search needs))
+draw-all-characters-requires : tie.Need-draw-all-characters-requires
+draw-all-characters-requires c κs = search needs
 
 same-length : tie.Need-same-length
 same-length c = search needs
 
-returns : tie.Need-returns
-returns c = (search needs, search advance-shown)
-
-advance-requires : tie.Need-advance-requires
-advance-requires c κs = search needs
-
-add-result : tie.Need-add-result
-add-result c = search next-fits
-
 returns-2 : tie.Need-returns-2
-returns-2 c = (search glyphs-unshown, rw (c .before .advance .ensures))
+returns-2 c = (search needs, (search advance-shown, search met-counted))
+
+next-x-requires-2 : tie.Need-next-x-requires-2
+next-x-requires-2 c κs = search needs
+
+same-length-2 : tie.Need-same-length-2
+same-length-2 c = search needs
+
+returns-3 : tie.Need-returns-3
+returns-3 c = (search needs, (search needs, search met-counted))
 
 pub draw-characters-spec : {M : Type 1} → statement M
 draw-characters-spec =
     tie.close
     (tie.spec
     shows-glyphs-requires
-    cells-of-requires
-    start-of-requires
-    draw-glyphs-requires
-    same-length
+    next-x-requires
     returns
-    advance-requires
-    add-result
-    returns-2)
+    draw-all-characters-requires
+    same-length
+    returns-2
+    next-x-requires-2
+    same-length-2
+    returns-3)

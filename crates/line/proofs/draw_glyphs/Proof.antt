@@ -4,16 +4,16 @@ use lib.ListN.{length}
 use borrow.Author.Needs.{needs}
 use Rattle.characters.proofs.Walks.{step-less}
 use Rattle.line.specs.Line.{fontOf}
-use Rattle.line.proofs.Glyphs.{Drawn, drawn-start, drawn-step, drawn-end, walked-stopped}
+use Rattle.line.proofs.Glyphs.{Drawn, drawn-start, drawn-step, drawn-end, walked-stopped, met-stopped}
 use Rattle.line.proofs.draw_glyphs.Statement.{statement}
 use Rattle.line.proofs.draw_glyphs.Tie as tie
 
 abbrev Inv-loop : tie.InvT-loop
-Inv-loop frame₀ target atlas mapping text style corner width spacing c₀ x₀ gap₀ frame c x gap =
-    Drawn target (fontOf (style .font) atlas mapping) (style .colors) text (corner .x) (corner .y) frame₀ gap (c .at) x frame
+Inv-loop frame₀ target atlas mapping text style corner width spacing c₀ x₀ gap₀ replaced₀ frame c x gap replaced =
+    Drawn target (fontOf (style .font) atlas mapping) (style .colors) (style .columns) text (corner .x) (corner .y) frame₀ gap (c .at) x replaced frame
 
 abbrev μ-loop : tie.MeasureT-loop
-μ-loop frame₀ target atlas mapping text style corner width spacing c₀ x₀ gap₀ frame c x gap =
+μ-loop frame₀ target atlas mapping text style corner width spacing c₀ x₀ gap₀ replaced₀ frame c x gap replaced =
     length text - c .at
 
 loop-holds : tie.Need-loop-holds Inv-loop μ-loop
@@ -29,10 +29,10 @@ same-length : tie.Need-same-length Inv-loop μ-loop
 same-length c = search needs
 
 returns : tie.Need-returns Inv-loop μ-loop
-returns c = (search drawn-end, search walked-stopped)
+returns c = (search drawn-end, (search walked-stopped, search met-stopped))
 
-draw-character-requires : tie.Need-draw-character-requires Inv-loop μ-loop
-draw-character-requires c κs = (search needs, (search needs, search needs))
+draw-met-character-requires : tie.Need-draw-met-character-requires Inv-loop μ-loop
+draw-met-character-requires c κs = (search needs, (search needs, search needs))
 
 add-x : tie.Need-add-x Inv-loop μ-loop
 add-x c = search needs
@@ -57,7 +57,7 @@ draw-glyphs-spec =
     enum-known-ch
     same-length
     returns
-    draw-character-requires
+    draw-met-character-requires
     add-x
     add-x-2
     loop-less

@@ -2,7 +2,7 @@
 use borrow.Author.Needs.{needs}
 use Rattle.calls.specs.Calls.{containsReply}
 use Rattle.calls.proofs.Refusals.{font-listed}
-use Rattle.station.proofs.Calls.{number-refused, mapping-within, contains-yes, contains-no}
+use Rattle.station.proofs.Calls.{number-refused, mapping-within, contains-done}
 use Rattle.station.proofs.station_contains.Statement.{statement}
 use Rattle.station.proofs.station_contains.Tie as tie
 
@@ -22,11 +22,11 @@ mapping-bytes-requires c κs = search font-listed
 contains-requires : tie.Need-contains-requires
 contains-requires c κs = search mapping-within
 
-returns-2 : tie.Need-returns-2
-returns-2 c = search contains-yes
+yes-no-requires : tie.Need-yes-no-requires
+yes-no-requires c κs = search needs
 
-returns-3 : tie.Need-returns-3
-returns-3 c = search contains-no
+returns-2 : tie.Need-returns-2
+returns-2 c = search contains-done
 
 pub station-contains-spec : {M : Type 1} → statement M
 station-contains-spec =
@@ -37,5 +37,5 @@ station-contains-spec =
     returns
     mapping-bytes-requires
     contains-requires
-    returns-2
-    returns-3)
+    yes-no-requires
+    returns-2)

@@ -5,16 +5,17 @@ use borrow.Author.Needs.{needs}
 use Rattle.characters.proofs.Feeds.{end-reach, line-part, line-less}
 use Rattle.line.specs.Line.{fontOf}
 use Rattle.text.proofs.Places.{line-limits, at-fits}
-use Rattle.text.proofs.Drawing.{LinesDrawn, lines-start, lines-step, draw-last, next-last}
+use Rattle.text.proofs.Drawing.{LinesDrawn, lines-start, lines-step, draw-last, count-last, next-last}
+use Rattle.text.proofs.Replaced.{count-fits}
 use Rattle.text.proofs.draw.Statement.{statement}
 use Rattle.text.proofs.draw.Tie as tie
 
 abbrev Inv-loop : tie.InvT-loop
-Inv-loop frame₀ target atlas mapping text font layout height from₀ y₀ frame from y =
-    LinesDrawn target (fontOf font atlas mapping) text layout frame₀ from y frame
+Inv-loop frame₀ target atlas mapping text font layout counts height from₀ y₀ replaced₀ frame from y replaced =
+    LinesDrawn target (fontOf font atlas mapping) text layout counts frame₀ from y replaced frame
 
 abbrev μ-loop : tie.MeasureT-loop
-μ-loop frame₀ target atlas mapping text font layout height from₀ y₀ frame from y = length text - from
+μ-loop frame₀ target atlas mapping text font layout counts height from₀ y₀ replaced₀ frame from y replaced = length text - from
 
 line-height-requires : tie.Need-line-height-requires Inv-loop μ-loop
 line-height-requires c κs = search needs
@@ -37,11 +38,14 @@ part-draw-line-end c = search end-reach
 draw-line-requires : tie.Need-draw-line-requires Inv-loop μ-loop
 draw-line-requires c κs = (search needs, (search needs, (search needs, search (line-limits, line-part))))
 
+add-replaced : tie.Need-add-replaced Inv-loop μ-loop
+add-replaced c = search count-fits
+
 same-length : tie.Need-same-length Inv-loop μ-loop
 same-length c = search needs
 
 returns : tie.Need-returns Inv-loop μ-loop
-returns c = (search draw-last, search next-last)
+returns c = (search draw-last, (search next-last, search count-last))
 
 add-from : tie.Need-add-from Inv-loop μ-loop
 add-from c = search needs
@@ -68,6 +72,7 @@ draw-spec =
     part-draw-line-start
     part-draw-line-end
     draw-line-requires
+    add-replaced
     same-length
     returns
     add-from

@@ -1,7 +1,7 @@
 -- `draw_line` meets its contract: a placed line is painted from its corner on, without its return. Assumes nothing.
 use borrow.Author.Needs.{needs}
 use Rattle.text.proofs.Places.{shown-place}
-use Rattle.text.proofs.Drawing.{line-painted, line-next}
+use Rattle.text.proofs.Drawing.{line-painted, line-next, line-count}
 use Rattle.text.proofs.draw_line.Statement.{statement}
 use Rattle.text.proofs.draw_line.Tie as tie
 
@@ -18,7 +18,7 @@ same-length : tie.Need-same-length
 same-length c = search needs
 
 returns : tie.Need-returns
-returns c = (search line-painted, search line-next)
+returns c = (search line-painted, (search line-next, search line-count))
 
 pub draw-line-spec : {M : Type 1} → statement M
 draw-line-spec =
