@@ -64,7 +64,7 @@ struct LineStyle {
     columns: Columns,
 }
 
-// What drawing a line gives: the next x, and how many of its characters the font's mapping does not list, 0 if they are not counted.
+// What drawing a line gives: the next x, and a count of characters that the font's mapping does not list.
 pub struct DrawnLine {
     pub next: u32,
     pub replaced: u32,

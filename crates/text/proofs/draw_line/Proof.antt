@@ -12,7 +12,7 @@ line-corner-requires : tie.Need-line-corner-requires
 line-corner-requires c κs = search needs
 
 draw-string-requires : tie.Need-draw-string-requires
-draw-string-requires c κs = (search needs, (search needs, (search needs, search shown-place)))
+draw-string-requires c κs = (search needs, (search needs, (search needs, search (shown-place, needs))))
 
 same-length : tie.Need-same-length
 same-length c = search needs
