@@ -2,4 +2,5 @@ pub mod Glyphs
 pub mod Corners
 pub mod Bits
 pub mod Images
+pub mod FirstRow
 pub mod Shown

@@ -1,5 +1,5 @@
--- Laws of a glyph that a clip shows: nothing, or the part of its cell in the atlas that the clip shows. Assumes nothing.
-use Prim.Native.Nat.{ℕ, _+_, _-_, _^_, _≤_, _<_}
+-- Laws of what a draw target shows of a cell: the part of an atlas that stands in it, the row after its last, and a glyph. Assumes nothing.
+use Prim.Native.Nat.{ℕ, _+_, _-_, _*_, _/_, _^_, _≤_, _<_}
 use native.Mathlib.Nat.{div-le-self}
 use native.Mathlib.Omega.{arith}
 use mathlib.Core.Path.{_≡_, refl, sym, ap, _∙_}
@@ -7,26 +7,80 @@ use mathlib.Core.Bool.{Bool, true, false, cond, and-eq-true-iff}
 use mathlib.Core.List.{List}
 use lib.ListN.{length}
 use lib.Dec.{leb}
-use mir.Syntax.{w64}
+use mir.Syntax.{w32, w64}
 use mir.Val.{Fits}
 use borrow.Author.Tests.{leb-true}
 use Rattle.geometry.specs.declared.Rectangle.{Rectangle}
-use Rattle.geometry.specs.declared.Point.{Point}
 use Rattle.geometry.specs.declared.DrawTarget.{DrawTarget}
 use Rattle.geometry.specs.declared.FrameArea.{FrameArea}
 use Rattle.geometry.specs.declared.OptionalGrey.{OptionalGrey}
 use Rattle.geometry.specs.Rectangle.{rectangle, isEmpty, intersection}
 use Rattle.geometry.specs.Layer.{origin, Layer, within, paint}
-use Rattle.geometry.specs.Canvas.{Canvas, fromCorner, onFrame, paintOn}
+use Rattle.geometry.specs.Canvas.{Canvas, InFrame, fromCorner, paintOn}
+use Rattle.geometry.proofs.Rectangles.{not-empty}
 use Rattle.geometry.proofs.Layers.{within-same, paint-none, paint-same, within-none}
-use Rattle.geometry.proofs.Clips.{shown-in-area, shown-ends, shown-starts, part-on-frame, paint-shown, paint-unshown}
+use Rattle.geometry.proofs.Frames.{rows-end}
+use Rattle.geometry.proofs.Clips.{shown-in-area, shown-ends, shown-starts, part-in-frame, part-on-frame, paint-shown, paint-unshown}
 use Rattle.atlas.specs.declared.Atlas.{Atlas}
 use Rattle.atlas.specs.declared.Corner.{Corner}
 use Rattle.atlas.specs.declared.Corner.the-variants.{At, Missing}
-use Rattle.atlas.specs.Atlas.{cellWidth, cellHeight, rowBytes, imageHeight, glyphColumn, glyphRow, isDrawn, image, glyph}
+use Rattle.atlas.specs.Atlas.{cellWidth, cellHeight, rowBytes, imageHeight, glyphColumn, glyphRow, isDrawn, image, glyph, lowerEdge, firstRowNotRun}
 use Rattle.atlas.specs.Row.{glyphCorner, SubImage}
-use Rattle.atlas.proofs.Glyphs.{glyph-within}
 use Rattle.atlas.proofs.Corners.{column-in}
+use Rattle.atlas.proofs.Glyphs.{glyph-within}
+use Rattle.atlas.proofs.Images.{RowsDrawn}
+
+-- what a draw target shows of a cell, where it shows some
+module _ (t : DrawTarget) (cell shown : Rectangle) (e : shown ≡ intersection (t .«clip_area») cell) (some : isEmpty (intersection (t .«clip_area») cell) ≡ false) where
+  shown-some : isEmpty shown ≡ false
+  shown-some = ap isEmpty e ∙ some
+
+  -- the part of an atlas that stands in it
+  module _ (stride x y n : ℕ) (s : SubImage stride x y (cell .width) (cell .height) n) where
+    in-image : (x + (shown .left - cell .left) + shown .width ≤ 8 * stride) × (y + (shown .top - cell .top) + shown .height ≤ n / stride)
+    in-image = omega (arith, s, shown-in-area (t .«clip_area») cell shown e, shown-ends (t .«clip_area») cell shown e shown-some)
+
+    pub shown-column-fits : Fits w64 (x + (shown .left - cell .left))
+    shown-column-fits = omega (arith, in-image, s .narrow)
+
+    pub shown-row-fits : n < 2 ^ 64 → Fits w64 (y + (shown .top - cell .top))
+    shown-row-fits b = omega (arith, in-image, div-le-self n stride)
+
+    pub shown-sub-image : (part : FrameArea) → part ≡ fromCorner shown → SubImage stride (x + (shown .left - cell .left)) (y + (shown .top - cell .top)) (part .width) (part .height) n
+    shown-sub-image part p = rw p (omega (arith, in-image, s .narrow))
+
+  pub shown-in-frame : (n : ℕ) (part : FrameArea) → Canvas t n → part ≡ fromCorner shown → InFrame (t .width) n part
+  shown-in-frame n part canvas p = part-in-frame t cell shown e n canvas part p (isEmpty shown) refl shown-some
+
+  -- its rows are drawn
+  module _ (n : ℕ) (canvas : Canvas t n) (part : FrameArea) (p : part ≡ fromCorner shown) (bytes : List ℕ) (stride x y k : ℕ) (text background : OptionalGrey) (xs ys : List ℕ)
+      (d : RowsDrawn (t .width) part k stride (x + (shown .left - cell .left)) (y + (shown .top - cell .top)) bytes text background xs ys)
+      (past : part .height ≤ k) where
+    all-run : k ≡ shown .height
+    all-run = let h : part .height ≡ shown .height = rw p in omega (arith, d .rows .reach)
+
+    pub row-shown : shown .top + k ≡ firstRowNotRun (cell .top) (cell .height) (lowerEdge t)
+    unfolding firstRowNotRun intersection
+    row-shown = let q = rw e at (not-empty shown shown-some) in rw (all-run, e) (omega arith)
+
+    pub row-shown-fits : Fits w32 (shown .top + k)
+    row-shown-fits = omega (arith, all-run, canvas, shown-ends (t .«clip_area») cell shown e shown-some)
+
+    -- and that is the whole part of the atlas, as far as it is shown
+    pub image-shown : ys ≡ paintOn t (within cell (image bytes stride x y (cell .left) (cell .top) text background)) xs
+    unfolding image
+    image-shown =
+        let b = shown-in-area (t .«clip_area») cell shown e in
+        let s = shown-starts t cell shown e n canvas in
+        let cut : Layer = image bytes stride (x + (shown .left - cell .left)) (y + (shown .top - cell .top)) (origin + part .left) (origin + part .top) text background in
+        let whole : Layer = image bytes stride x y (cell .left) (cell .top) text background in
+        rows-end (t .width) part k cut xs ys (d .rows) past
+        ∙ ap (λ (m : Rectangle). paint (t .width) (within m cut) xs) (part-on-frame t cell shown e n canvas part p)
+        ∙ paint-same (t .width) _ _ xs (within-same shown cut whole (λ c r grey.
+        let u : x + (shown .left - cell .left) + c - (origin + (shown .left - origin)) ≡ x + c - cell .left = omega (arith, b .0, s .left) in
+        let v : y + (shown .top - cell .top) + r - (origin + (shown .top - origin)) ≡ y + r - cell .top = omega (arith, b .1, s .top) in
+        rw (p, u, v)))
+        ∙ paint-shown (t .«clip_area») cell shown e (t .width) whole xs
 
 -- what a corner tells
 module _ (a : Atlas) (n i : ℕ) (corner : Corner) (e : corner ≡ glyphCorner a n i) where
@@ -56,57 +110,31 @@ module _ (a : Atlas) (n i : ℕ) (e : isDrawn a n i ≡ true) where
       let r = and-eq-true-iff (leb (cellWidth a) (a .width)) _ .0 (q .1) in
       (column-in i _ (cellWidth a) (a .width) refl (leb-true _ _ (p .0)) (leb-true _ _ (r .0)), leb-true _ _ (r .1))
 
--- a glyph, its cell and what a draw target shows of that
-module _ (t : DrawTarget) (shown : Rectangle) (bytes : List ℕ) (a : Atlas) (text background : OptionalGrey) (i : ℕ) (corner : Point) (xs : List ℕ)
-    (e : shown ≡ intersection (t .«clip_area») (rectangle (corner .x) (corner .y) (cellWidth a) (cellHeight a))) where
-  abbrev drawn : Layer
-  drawn = glyph bytes a text background i (corner .x) (corner .y)
+pub some-shown : (clip cell shown : Rectangle) (empty : Bool) → shown ≡ intersection clip cell → empty ≡ isEmpty shown → empty ≡ false → isEmpty (intersection clip cell) ≡ false
+some-shown clip cell shown empty e is-empty holds = cc
 
-  -- nothing is painted where the target does not show the cell
-  pub glyph-unshown : (empty : Bool) → empty ≡ isEmpty shown → empty ≡ true → xs ≡ paintOn t drawn xs
-  glyph-unshown empty is-empty holds =
-      paint-unshown (t .«clip_area») _ shown e (t .width) drawn xs empty is-empty holds
-      ∙ paint-same (t .width) _ _ xs (within-same (t .«clip_area») _ _ (λ c r grey. glyph-within bytes a text background i (corner .x) (corner .y) c r grey))
+-- a glyph is not painted where a draw target shows nothing of its cell
+pub glyph-unshown : (t : DrawTarget) (bytes : List ℕ) (a : Atlas) (text background : OptionalGrey) (i left top : ℕ) (shown : Rectangle) (empty : Bool) (xs : List ℕ)
+    → shown ≡ intersection (t .«clip_area») (rectangle left top (cellWidth a) (cellHeight a)) → empty ≡ isEmpty shown → empty ≡ true → xs ≡ paintOn t (glyph bytes a text background i left top) xs
+glyph-unshown t bytes a text background i left top shown empty xs e is-empty holds =
+    paint-unshown (t .«clip_area») _ shown e (t .width) _ xs empty is-empty holds
+    ∙ paint-same (t .width) _ _ xs (within-same (t .«clip_area») _ _ (λ c r grey. glyph-within bytes a text background i left top c r grey))
 
-  -- nor where it is not drawn
-  pub glyph-missing : (place : Corner) → place ≡ glyphCorner a (length bytes) i → place ≡ Missing → xs ≡ paintOn t drawn xs
-  unfolding glyph
-  glyph-missing place k m =
-      let d = corner-missing a (length bytes) i place k m in
-      sym (paint-none (t .width) _ xs (within-none (t .«clip_area») drawn (λ c r grey. rw d)))
+-- a glyph whose corner is known, on a draw target
+module _ (bytes : List ℕ) (a : Atlas) (i : ℕ) (place : Corner) (k : place ≡ glyphCorner a (length bytes) i) where
+  module _ (t : DrawTarget) (text background : OptionalGrey) (left top : ℕ) (xs : List ℕ) where
+    pub glyph-missing : place ≡ Missing → xs ≡ paintOn t (glyph bytes a text background i left top) xs
+    unfolding glyph
+    glyph-missing m =
+        let d = corner-missing a (length bytes) i place k m in
+        sym (paint-none (t .width) _ xs (within-none (t .«clip_area») _ (λ c r grey. rw d)))
 
-  module _ (place : Corner) (column row : ℕ) (k : place ≡ glyphCorner a (length bytes) i) (at : place ≡ At column row) (empty : Bool) (is-empty : empty ≡ isEmpty shown) (holds : empty ≡ false) where
-    in-atlas : (column + (shown .left - corner .x) + shown .width ≤ a .width) × (row + (shown .top - corner .y) + shown .height ≤ imageHeight a (length bytes))
-    in-atlas =
-        let d = corner-at a (length bytes) i place k column row at in
-        omega (arith, drawn-in a (length bytes) i (d .0), d .1, d .2, shown-in-area (t .«clip_area») _ shown e, shown-ends (t .«clip_area») _ shown e (cc))
+    pub glyph-drawn : (x y : ℕ) (ys : List ℕ) → place ≡ At x y → ys ≡ paintOn t (within (rectangle left top (cellWidth a) (cellHeight a)) (image bytes (rowBytes a) x y left top text background)) xs
+        → ys ≡ paintOn t (glyph bytes a text background i left top) xs
+    unfolding glyph
+    glyph-drawn x y ys at f =
+        let d = corner-at a (length bytes) i place k x y at in
+        f ∙ paint-same (t .width) _ _ xs (within-same (t .«clip_area») _ _ (λ c r grey. rw (d .0, d .1, d .2)))
 
-    pub column-shown-fits : a .width < 2 ^ 32 → Fits w64 (column + (shown .left - corner .x))
-    column-shown-fits b = omega (arith, in-atlas)
-
-    pub row-shown-fits : length bytes < 2 ^ 64 → Fits w64 (row + (shown .top - corner .y))
-    row-shown-fits b = omega (arith, in-atlas, div-le-self (length bytes) (rowBytes a))
-
-    module _ (part : FrameArea) (p : part ≡ fromCorner shown) where
-      -- the part of the cell that is shown lies in the atlas
-      pub shown-sub-image : a .width < 2 ^ 32 → SubImage (rowBytes a) (column + (shown .left - corner .x)) (row + (shown .top - corner .y)) (part .width) (part .height) (length bytes)
-      shown-sub-image b = rw p (omega (arith, in-atlas))
-
-      -- and drawing it is drawing the glyph
-      pub glyph-shown : (n : ℕ) (ys : List ℕ) → Canvas t n
-          → ys ≡ paint (t .width) (within (onFrame part) (image bytes (rowBytes a) (column + (shown .left - corner .x)) (row + (shown .top - corner .y)) (origin + part .left) (origin + part .top) text background)) xs
-          → ys ≡ paintOn t drawn xs
-      unfolding image glyph
-      glyph-shown n ys canvas f =
-          let d = corner-at a (length bytes) i place k column row at in
-          let b = shown-in-area (t .«clip_area») _ shown e in
-          let s = shown-starts t _ shown e n canvas in
-          let cut : Layer = image bytes (rowBytes a) (column + (shown .left - corner .x)) (row + (shown .top - corner .y)) (origin + part .left) (origin + part .top) text background in
-          let whole : Layer = image bytes (rowBytes a) (glyphColumn a i) (glyphRow a i) (corner .x) (corner .y) text background in
-          f ∙ ap (λ (m : Rectangle). paint (t .width) (within m cut) xs) (part-on-frame t _ shown e n canvas part p)
-          ∙ paint-same (t .width) _ _ xs (within-same shown cut whole (λ c r grey.
-          let x : column + (shown .left - corner .x) + c - (origin + (shown .left - origin)) ≡ glyphColumn a i + c - corner .x = omega (arith, d .1, b .0, s .left) in
-          let y : row + (shown .top - corner .y) + r - (origin + (shown .top - origin)) ≡ glyphRow a i + r - corner .y = omega (arith, d .2, b .1, s .top) in
-          rw (p, x, y)))
-          ∙ paint-shown (t .«clip_area») _ shown e (t .width) whole xs
-          ∙ paint-same (t .width) _ _ xs (within-same (t .«clip_area») _ drawn (λ c r grey. rw (d .0)))
+  pub glyph-sub-image : (x y : ℕ) → place ≡ At x y → a .width < 2 ^ 32 → SubImage (rowBytes a) x y (cellWidth a) (cellHeight a) (length bytes)
+  glyph-sub-image x y at b = let d = corner-at a (length bytes) i place k x y at in omega (arith, drawn-in a (length bytes) i (d .0), d .1, d .2)

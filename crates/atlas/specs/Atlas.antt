@@ -1,10 +1,11 @@
 -- An atlas's rows of bits and its glyphs' cells (docs/SHEET.md, Atlas). Assumes nothing.
 -- To be believed: it says what a sheet means.
-use Prim.Native.Nat.{ℕ, _+_, _-_, _*_, _/_, _%_, _^_}
+use Prim.Native.Nat.{ℕ, _+_, _-_, _*_, _/_, _%_, _^_, min, max}
 use mathlib.Core.Bool.{Bool, cond, _&&_}
 use mathlib.Core.List.{List}
 use lib.ListN.{length, getD}
 use lib.Dec.{leb, eqb}
+use Rattle.geometry.specs.declared.DrawTarget.{DrawTarget}
 use Rattle.geometry.specs.declared.OptionalGrey.{OptionalGrey}
 use Rattle.geometry.specs.Rectangle.{rectangle}
 use Rattle.geometry.specs.Layer.{Layer, within, colored}
@@ -55,3 +56,14 @@ glyph bytes a text background i left top c r grey =
     (within (rectangle left top (cellWidth a) (cellHeight a))
     (image bytes (rowBytes a) (glyphColumn a i) (glyphRow a i) left top text background) c r grey)
     grey
+
+-- ---- the loop over a glyph's rows (docs/SHEET.md, Stop below the frame)
+
+-- "the first row below the frame or rectangle" that a target shows
+abbrev pub lowerEdge : DrawTarget → ℕ
+lowerEdge t = t .«clip_area» .top + t .«clip_area» .height
+
+-- "It returns the first row it didn't run: the cell's foot or that edge, whichever is higher, but the cell's top if that lies lower";
+-- of a cell from `top` on, ch rows high
+unfoldable pub firstRowNotRun : ℕ → ℕ → ℕ → ℕ
+firstRowNotRun top ch edge = max top (min (top + ch) edge)

@@ -1,17 +1,20 @@
 // An atlas of glyphs: where each stands in it, and the drawing of one.
 use geometry::DrawTarget;
-use geometry::FrameArea;
 use geometry::OptionalGrey;
 use geometry::Point;
 use geometry::Rectangle;
 use geometry::Size;
+use geometry::numbers::least;
+use geometry::numbers::minus;
 use numbers::wide;
 ghost use mathlib.Core.Path.{_≡_};
-ghost use Prim.Native.Nat.{_+_, _/_, _≤_};
+ghost use mathlib.Core.Bool.{false};
+ghost use Prim.Native.Nat.{_/_, _≤_};
 ghost use lib.ListN.{length};
-ghost use Rattle.geometry.specs.Layer.{origin, mapIndexed, within, paint};
-ghost use Rattle.geometry.specs.Canvas.{Canvas, InFrame, onFrame, paintOn};
-ghost use Rattle.atlas.specs.Atlas.{image, glyph};
+ghost use Rattle.geometry.specs.Rectangle.{isEmpty, intersection};
+ghost use Rattle.geometry.specs.Layer.{mapIndexed, within};
+ghost use Rattle.geometry.specs.Canvas.{Canvas, paintOn};
+ghost use Rattle.atlas.specs.Atlas.{cellHeight, image, glyph, lowerEdge, firstRowNotRun};
 ghost use Rattle.atlas.specs.Row.{CellsOf, glyphCorner, blend, imageRow, bitsAt, bitRow, SubImage};
 
 // An atlas of glyphs: embedded-graphics' `ImageRaw` of one bit a pixel, and the size of a glyph's cell in it.
@@ -184,33 +187,58 @@ fn draw_row(
     }
 }
 
-// Draws the atlas from its pixel (x, y) on in a rectangle of a frame fw wide.
+// The first row that the loop over a glyph's rows does not run: of a cell from `top` on, where `edge` is the first row below what is shown.
+fn first_row_not_run(top: u32, height: u32, edge: u32) -> u32
+    ensures { λ r. ⌜ r ≡ firstRowNotRun top height edge ⌝ }
+{
+    let room = minus(edge, top);
+    top + least(height, room)
+}
+
+// Draws the atlas from its pixel (x, y) on in a cell of which the target shows some, row by row down to the cell's foot or the target's; gives
+// the first row that is not run.
 fn draw_sub_image(
     frame: &mut [u8],
-    fw: usize,
-    area: FrameArea,
+    target: DrawTarget,
+    cell: Rectangle,
     bytes: &[u8],
     stride: usize,
     x: usize,
     y: usize,
     colors: GlyphColors,
-)
-    requires { ⌜ InFrame fw (length (now frame)) area ⌝ }
-    requires { ⌜ SubImage stride x y (area .width) (area .height) (length (now bytes)) ⌝ }
-    ensures { λ _. ⌜ now (frame .exit) ≡ paint fw (within (onFrame area) (image (now (bytes .entry)) stride x y (origin + area .left) (origin + area .top) (colors .text) (colors .background))) (now (frame .entry)) ⌝ }
+) -> u32
+    requires { ⌜ Canvas target (length (now frame)) ⌝ }
+    requires { ⌜ isEmpty (intersection (target .«clip_area») cell) ≡ false ⌝ }
+    requires { ⌜ SubImage stride x y (cell .width) (cell .height) (length (now bytes)) ⌝ }
+    ensures { λ _. ⌜ now (frame .exit) ≡ paintOn target (within cell (image (now (bytes .entry)) stride x y (cell .left) (cell .top) (colors .text) (colors .background))) (now (frame .entry)) ⌝ }
+    ensures { λ r. ⌜ r ≡ firstRowNotRun (cell .top) (cell .height) (lowerEdge target) ⌝ }
 {
+    let shown = target.clip_area.intersection(cell);
+    let column = x + (shown.left - cell.left) as usize;
+    let row = y + (shown.top - cell.top) as usize;
+    let area = shown.on_frame();
+    let fw = target.width;
     let text = colors.text;
     let background = colors.background;
     let mut k: usize = 0;
     while k < area.height {
         let a = (area.top + k) * fw + area.left;
         let b = a + area.width;
-        draw_row(&mut frame[a..b], bytes, stride, x, y + k, text, background);
+        draw_row(
+            &mut frame[a..b],
+            bytes,
+            stride,
+            column,
+            row + k,
+            text,
+            background,
+        );
         k += 1;
     }
+    shown.top + k as u32
 }
 
-// Draws the glyph with an index, its cell's corner at `corner`, where the target shows it.
+// Draws the glyph with an index, its cell's corner at `corner`, where the target shows it; gives the first row that is not run.
 pub fn draw_glyph(
     frame: &mut [u8],
     target: DrawTarget,
@@ -220,10 +248,11 @@ pub fn draw_glyph(
     colors: GlyphColors,
     index: u32,
     corner: Point,
-)
+) -> u32
     requires { ⌜ Canvas target (length (now frame)) ⌝ }
     requires { ⌜ CellsOf atlas (length (now bytes)) cells ⌝ }
     ensures { λ _. ⌜ now (frame .exit) ≡ paintOn target (glyph (now (bytes .entry)) atlas (colors .text) (colors .background) index (corner .x) (corner .y)) (now (frame .entry)) ⌝ }
+    ensures { λ r. ⌜ r ≡ firstRowNotRun (corner .y) (cellHeight atlas) (lowerEdge target) ⌝ }
 {
     let cell = Rectangle {
         left: corner.x,
@@ -231,16 +260,14 @@ pub fn draw_glyph(
         width: atlas.cell_size.width,
         height: atlas.cell_size.height,
     };
-    let shown = target.clip_area.intersection(cell);
-    if shown.is_empty() {
-        return;
+    let clip = target.clip_area;
+    let not_run = first_row_not_run(cell.top, cell.height, clip.top + clip.height);
+    if clip.intersection(cell).is_empty() {
+        return not_run;
     }
-    let Corner::At(column, row) = glyph_corner(bytes.len(), atlas, cells, index) else {
-        return;
+    let Corner::At(x, y) = glyph_corner(bytes.len(), atlas, cells, index) else {
+        return not_run;
     };
     let stride = (atlas.width as usize + 7) / 8;
-    let x = column + (shown.left - corner.x) as usize;
-    let y = row + (shown.top - corner.y) as usize;
-    let area = shown.on_frame();
-    draw_sub_image(frame, target.width, area, bytes, stride, x, y, colors);
+    draw_sub_image(frame, target, cell, bytes, stride, x, y, colors)
 }
