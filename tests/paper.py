@@ -23,12 +23,13 @@ from station_sheet.description import FontPart, ItemPart, assemble  # noqa: E402
 from station_sheet.show import decoration, grey  # noqa: E402
 
 PAPER, DEMANDS = "docs/SHEET.md", "docs/DEMANDS.md"
-TITLES = ["Numbers and bytes", "Geometry", "Characters", "Mapping", "Atlas", "One line", "Text", "Replaced characters", "Sheet", "Drawing and edits",
-          "Page and host", "Fonts from BDF", "Replies and refusals", "Worked examples", "How far to trust this"]
+TITLES = ["Numbers and bytes", "Geometry", "Characters", "Mapping", "Atlas", "One line", "Text", "Replaced characters", "Stop below the frame", "Sheet",
+          "Drawing and edits", "Page and host", "Fonts from BDF", "Replies and refusals", "Worked examples", "How far to trust this"]
 # of the demands and of the rules, which stay as they were given: those of a section that was added later by themselves
 RULES_SHA256 = "df7653ae1b5fa7c823a8a3e8267ee0a349ff420aeddfc030918767c02936e3b3"
 ADDED_SHA256 = {"Fonts from BDF": "3003de7df8c001d7575b8bc67b8094a0c026d0731d9fecd9eea926e9634203e9",
-                "Replaced characters": "31924ba9b6b14562230a5e14e69e8a9307ea06577f6231a310bd952e786666de"}
+                "Replaced characters": "31924ba9b6b14562230a5e14e69e8a9307ea06577f6231a310bd952e786666de",
+                "Stop below the frame": "d95a91b7401f9c79495d9311c621255ebd6852a81e5312e5a2307e84e587fc98"}
 DEMANDS_SHA256 = "81032766de38756c2c69d7a4e908163f27ada3da2dabedc28dca7e1ffc7a224a"
 
 

@@ -71,8 +71,9 @@ module _ (b : List ℕ) (n : ℕ) where
     unfolding item itemOf
     item-is = rw (w, r .position, r .character-style, r .text-style)
 
-    pub item-next : (p : Point) → p ≡ next (i .font) (textOf text (i .position .x) (i .position .y) (i .«character_style») (i .«text_style»)) → p ≡ next (itemFont b n .mono) (item b n)
-    item-next p e = rw (item-is, r .font) at e
+    pub item-next : (replies : Bool) (p : Point) → p ≡ cond replies (next (i .font) (textOf text (i .position .x) (i .position .y) (i .«character_style») (i .«text_style»))) (i .position)
+        → p ≡ cond replies (next (itemFont b n .mono) (item b n)) (item b n .position)
+    item-next replies p e = rw (item-is, r .font, r .position) at e
 
     pub item-ink : (a : Rectangle) → a ≡ inkBox (i .font) (textOf text (i .position .x) (i .position .y) (i .«character_style») (i .«text_style»)) → a ≡ itemInk b n
     unfolding itemInk
@@ -81,11 +82,11 @@ module _ (b : List ℕ) (n : ℕ) where
     pub item-box : (a : Rectangle) → a ≡ boundingBox (i .font) (textOf text (i .position .x) (i .position .y) (i .«character_style») (i .«text_style»)) → a ≡ boundingBox (itemFont b n .mono) (item b n)
     item-box a e = rw (item-is, r .font) at e
 
-    pub item-replaced : (counts : Bool) (atlas mapping : List ℕ) (k : ℕ) → atlas ≡ atlasBytes b (fontAt (i .«font_number»)) → mapping ≡ mappingBytes b (fontAt (i .«font_number»))
-        → k ≡ cond counts (replaced (fontOf (i .font) atlas mapping) (textOf text (i .position .x) (i .position .y) (i .«character_style») (i .«text_style»))) 0
-        → k ≡ cond counts (replaced (itemFont b n) (item b n)) 0
+    pub item-replaced : (replies : Bool) (atlas mapping : List ℕ) (k : ℕ) → atlas ≡ atlasBytes b (fontAt (i .«font_number»)) → mapping ≡ mappingBytes b (fontAt (i .«font_number»))
+        → k ≡ cond replies (replaced (fontOf (i .font) atlas mapping) (textOf text (i .position .x) (i .position .y) (i .«character_style») (i .«text_style»))) 0
+        → k ≡ cond replies (replaced (itemFont b n) (item b n)) 0
     unfolding itemFont font
-    item-replaced counts atlas mapping k ea em e = rw (item-is, ea, em, r .font, r .font-number) at e
+    item-replaced replies atlas mapping k ea em e = rw (item-is, ea, em, r .font, r .font-number) at e
 
     pub item-painted : (t : DrawTarget) (clip : Rectangle) (atlas mapping xs ys : List ℕ) → t ≡ targetOf b clip
         → atlas ≡ atlasBytes b (fontAt (i .«font_number»)) → mapping ≡ mappingBytes b (fontAt (i .«font_number»))

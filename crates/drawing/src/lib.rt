@@ -56,13 +56,13 @@ fn target_of(sheet: &[u8], clip: Rectangle) -> DrawTarget
     }
 }
 
-// Draws an item in a clip; gives its next position, and how many characters are not listed if `counts`.
-fn draw_item_in(sheet: &[u8], frame: &mut [u8], clip: Rectangle, counts: bool, n: u32) -> DrawnText
+// Draws an item in a clip; replies its next position and how many characters are not listed, if `replies`.
+fn draw_item_in(sheet: &[u8], frame: &mut [u8], clip: Rectangle, replies: bool, n: u32) -> DrawnText
     requires { ⌜ ItemListed (now sheet) n ⌝ }
     requires { ⌜ Canvas (targetOf (now sheet) clip) (length (now frame)) ⌝ }
     ensures { λ _. ⌜ now (frame .exit) ≡ paintIn (frameWidth (now (sheet .entry))) clip (itemLayer (now (sheet .entry)) n) (now (frame .entry)) ⌝ }
-    ensures { λ r. ⌜ r .next ≡ next (itemFont (now (sheet .entry)) n .mono) (item (now (sheet .entry)) n) ⌝ }
-    ensures { λ r. ⌜ r .replaced ≡ cond counts (replaced (itemFont (now (sheet .entry)) n) (item (now (sheet .entry)) n)) 0 ⌝ }
+    ensures { λ r. ⌜ r .next ≡ cond replies (next (itemFont (now (sheet .entry)) n .mono) (item (now (sheet .entry)) n)) (item (now (sheet .entry)) n .position) ⌝ }
+    ensures { λ r. ⌜ r .replaced ≡ cond replies (replaced (itemFont (now (sheet .entry)) n) (item (now (sheet .entry)) n)) 0 ⌝ }
 {
     let target = target_of(sheet, clip);
     let item = item_at(sheet, n);
@@ -79,7 +79,7 @@ fn draw_item_in(sheet: &[u8], frame: &mut [u8], clip: Rectangle, counts: bool, n
         character_style,
         text_style,
     };
-    text::draw(frame, target, atlas, mapping, text, font, layout, counts)
+    text::draw(frame, target, atlas, mapping, text, font, layout, replies)
 }
 
 // Draws an item in a clip; one whose ink box the clip does not meet is not drawn.

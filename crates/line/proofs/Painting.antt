@@ -33,12 +33,16 @@ Inside area f = (c r grey : ℕ) → (In area c r → ⊥) → f c r grey ≡ gr
 abbrev pub Disjoint : Rectangle → Rectangle → Type 0
 Disjoint clip area = (c r : ℕ) → In clip c r → In area c r → ⊥
 
--- such a layer changes nothing on a draw target that shares no pixel with the area
-pub paint-disjoint : (t : DrawTarget) (area : Rectangle) (f : Layer) (xs : List ℕ) → Inside area f → Disjoint (t .«clip_area») area → xs ≡ paintOn t f xs
-paint-disjoint t area f xs inside none-shared = sym (paint-none (t .width) _ xs (λ c r grey. ⊎-elim
-    (λ i. within-in (t .«clip_area») f c r grey i ∙ inside c r grey (none-shared c r i))
+-- a layer that changes nothing in a draw target's clip changes nothing
+pub paint-unseen : (t : DrawTarget) (f : Layer) (xs : List ℕ) → ((c r grey : ℕ) → In (t .«clip_area») c r → f c r grey ≡ grey) → xs ≡ paintOn t f xs
+paint-unseen t f xs none = sym (paint-none (t .width) _ xs (λ c r grey. ⊎-elim
+    (λ i. within-in (t .«clip_area») f c r grey i ∙ none c r grey i)
     (λ o. within-out (t .«clip_area») f c r grey o)
     (in-or-out (t .«clip_area») c r)))
+
+-- so does one of an area that shares no pixel with it
+pub paint-disjoint : (t : DrawTarget) (area : Rectangle) (f : Layer) (xs : List ℕ) → Inside area f → Disjoint (t .«clip_area») area → xs ≡ paintOn t f xs
+paint-disjoint t area f xs inside none-shared = paint-unseen t f xs (λ c r grey i. inside c r grey (none-shared c r i))
 
 disjoint-false : (a n b m k : ℕ) → a ≤ k → k < a + n → b ≤ k → k < b + m → disjoint a n b m ≡ false
 unfolding disjoint

@@ -10,7 +10,7 @@ use Rattle.line.proofs.Ink.{string-out}
 use Rattle.text.specs.Text.{Text, PlacedLine, placedLines, lineTop, lineLayer, linesLayer, layer, nowhere, lineInk, inkBox}
 
 module _ (f : Font) (t : Text) (c r : ℕ) where
-  line-out : (l : PlacedLine) (grey : ℕ) → (In (lineInk (f .mono) t l) c r → ⊥) → lineLayer f t l c r grey ≡ grey
+  pub line-out : (l : PlacedLine) (grey : ℕ) → (In (lineInk (f .mono) t l) c r → ⊥) → lineLayer f t l c r grey ≡ grey
   unfolding lineLayer lineInk
   line-out l grey o = string-out c r f (t .characterStyle) (l .text) (l .x) (lineTop (f .mono) t l) grey o
 

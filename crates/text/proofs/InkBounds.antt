@@ -3,7 +3,7 @@ use Prim.Native.Nat.{ℕ, suc, _+_, _-_, _*_, _≤_, _<_, max}
 use native.Mathlib.Nat.{mul-le-mul, mul-le-mul-right}
 use native.Mathlib.Omega.{arith}
 use native.Mathlib.Numerals.{add-one}
-use mathlib.Core.Path.{_≡_, refl}
+use mathlib.Core.Path.{_≡_, refl, sym, _∙_}
 use mathlib.Core.Bool.{Bool, true, false, cond}
 use mathlib.Core.List.{List, [], _∷_, map, List·Memᴰ, List·Memᴰ·head, List·Memᴰ·tail}
 use lib.ListN.{length, drop, getD, drop-of-length-le}
@@ -30,7 +30,7 @@ use Rattle.text.specs.declared.Alignment.the-variants.{Left, Center, Rig
 use Rattle.text.specs.declared.LineHeight.{LineHeight}
 use Rattle.text.specs.declared.TextStyle.{TextStyle}
 use Rattle.text.specs.Text.{Text, textOf, alignedStart, lineHeight, placeLine, placeLines, placedLines, nowhere, lineInk, inkBox}
-use Rattle.text.specs.Lines.{feedCount, startReach}
+use Rattle.text.specs.Lines.{feedCount, startReach, isBelow}
 use Rattle.text.specs.Limits.{TextLimits, HeightLimit}
 use Rattle.text.proofs.Exact.{length-line}
 use Rattle.text.proofs.Places.{height-small}
@@ -238,8 +238,9 @@ module _ (m : MonoFont) (text : List ℕ) (x y : ℕ) (ts : TextStyle) (s : Mono
       (λ e. absurd (omega (arith, not-empty (nowhere whole) e)))
 
   module _ (clip : Rectangle) (offset top : ℕ) (eo : offset ≡ baselineOffset m (ts .baseline)) (et : top ≡ y - offset) where
-    pub apart-above : (room : ℕ) → room ≡ top - clip .top → clip .height ≤ room → isEmpty (intersection (inkBox m whole) clip) ≡ true
-    apart-above room e h = held-apart _ _ _ _ (inkBox m whole) clip ink-held (λ c r p q u v i. omega arith)
+    pub apart-above : (below : Bool) → below ≡ isBelow clip top → below ≡ true → isEmpty (intersection (inkBox m whole) clip) ≡ true
+    unfolding isBelow
+    apart-above below e h = held-apart _ _ _ _ (inkBox m whole) clip ink-held (λ c r p q u v i. omega (arith, leb-true (clip .height) (top - clip .top) (sym e ∙ h)))
 
     pub apart-below : (depth : ℕ) → depth ≡ spanned + inkHeight m → leb (top + depth) (clip .top) ≡ true → isEmpty (intersection (inkBox m whole) clip) ≡ true
     apart-below depth e h = held-apart _ _ _ _ (inkBox m whole) clip ink-held (λ c r p q u v i. omega (arith, leb-true (top + depth) (clip .top) h))

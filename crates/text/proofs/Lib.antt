@@ -1,6 +1,7 @@
 pub mod Sources
 pub mod Places
 pub mod Replaced
+pub mod Below
 pub mod Drawing
 pub mod LineBoxes
 pub mod Lines

@@ -1,11 +1,11 @@
 -- The lines of a text as its functions find them, and their boxes. Assumes nothing.
 -- Serves contracts: nothing here has to be believed.
-use Prim.Native.Nat.{ℕ, _+_}
+use Prim.Native.Nat.{ℕ, _+_, _-_}
 use mathlib.Core.Path.{_≡_}
-use mathlib.Core.Bool.{Bool, cond}
+use mathlib.Core.Bool.{Bool, false, cond}
 use mathlib.Core.List.{List, [], _∷_, map}
 use lib.ListN.{length}
-use lib.Dec.{eqb}
+use lib.Dec.{leb, eqb}
 use Rattle.geometry.specs.declared.Point.{Point}
 use Rattle.geometry.specs.declared.Rectangle.{Rectangle}
 use Rattle.geometry.specs.Rectangle.{joins}
@@ -43,6 +43,14 @@ pub record LiesAt (slice : ℕ × ℕ) (from : ℕ) (part : ℕ × ℕ) : Type 0
 -- the corner of a line: its start beside x, and its top edge
 unfoldable pub lineCorner : MonoFont → TextStyle → List ℕ → ℕ → ℕ → Point
 lineCorner m t l x y = record { x = alignedStart (t .alignment) x (measuredWidth m (length (chars l))); y = topEdge m (t .baseline) y }
+
+-- whether no row from `top` on is one of a clip's, since they all lie below it
+unfoldable pub isBelow : Rectangle → ℕ → Bool
+isBelow clip top = leb (clip .height) (top - clip .top)
+
+-- whether a line at y, and so each after it, is left out of a drawing: nothing of it is shown, and no reply is asked for
+unfoldable pub isLeftOut : Rectangle → MonoFont → TextStyle → ℕ → Bool → Bool
+isLeftOut clip m t y replies = cond replies false (isBelow clip (topEdge m (t .baseline) y))
 
 -- the ink box of a line, or its measured box
 unfoldable pub lineBox : Bool → MonoFont → Text → PlacedLine → Rectangle

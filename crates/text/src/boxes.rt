@@ -3,6 +3,7 @@
 use super::Alignment;
 use super::LineHeight;
 use super::TextStyle;
+use super::is_below;
 use super::line_corner;
 use super::line_height;
 use characters::lines::line_end;
@@ -246,7 +247,7 @@ pub fn is_apart(
 {
     let baseline = text_style.baseline;
     let top = minus(y, line::baseline_offset(font, baseline));
-    if clip.height <= minus(top, clip.top) {
+    if is_below(clip, top) {
         return true;
     }
     let widest = most_width(text, font);

@@ -8,6 +8,7 @@ use characters::lines::line_end;
 use characters::lines::without_return;
 use geometry::DrawTarget;
 use geometry::Point;
+use geometry::Rectangle;
 use geometry::numbers::minus;
 use line::Baseline;
 use line::DrawnLine;
@@ -22,7 +23,7 @@ ghost use Rattle.mapping.specs.Entries.{WithinLimit};
 ghost use Rattle.line.specs.Line.{fontOf, measuredWidth};
 ghost use Rattle.line.specs.Limits.{FontLimits};
 ghost use Rattle.text.specs.Text.{laidOut, alignedStart, lineHeight, placeLine, lineLayer, layer, lineNext, next, lineReplaced, replaced};
-ghost use Rattle.text.specs.Lines.{lineCorner};
+ghost use Rattle.text.specs.Lines.{lineCorner, isBelow, isLeftOut};
 ghost use Rattle.text.specs.Limits.{TextLimits, HeightLimit, StartLimits, LineLimits};
 
 mod boxes;
@@ -54,8 +55,8 @@ pub struct TextLayout {
     pub text_style: TextStyle,
 }
 
-// What drawing a text gives: the next position of its last line, and how many characters of its lines the font's mapping does not
-// list, 0 if they are not counted.
+// What drawing a text replies: the next position of its last line, and how many characters of its lines the font's mapping does not
+// list. Where no reply is asked for, it is the text's own position, and 0.
 pub struct DrawnText {
     pub next: Point,
     pub replaced: u32,
@@ -105,6 +106,42 @@ fn line_corner(line: &[u8], font: MonoFont, text_style: TextStyle, x: u32, y: u3
     Point { x: left, y: top }
 }
 
+// Whether no row from `top` on is one of a clip's, since they all lie below it.
+fn is_below(clip: Rectangle, top: u32) -> bool
+    ensures { λ r. ⌜ r ≡ isBelow clip top ⌝ }
+{
+    clip.height <= minus(top, clip.top)
+}
+
+// Whether a line at y, and so each after it, is left out of a drawing: nothing of it is shown, and no reply is asked for.
+fn is_left_out(
+    clip: Rectangle,
+    font: MonoFont,
+    text_style: TextStyle,
+    y: u32,
+    replies: bool,
+) -> bool
+    requires { ⌜ FontLimits font ⌝ }
+    ensures { λ r. ⌜ r ≡ isLeftOut clip font «text_style» y replies ⌝ }
+{
+    if replies {
+        return false;
+    }
+    let baseline = text_style.baseline;
+    let top = minus(y, line::baseline_offset(font, baseline));
+    is_below(clip, top)
+}
+
+// A next position that is asked for, else the text's own.
+fn next_if(replies: bool, next: Point, position: Point) -> Point
+    ensures { λ r. ⌜ r ≡ cond replies next position ⌝ }
+{
+    if replies {
+        return next;
+    }
+    position
+}
+
 // Draws one line of a text at y, with its return if it has one; gives the next x, and the count.
 fn draw_line(
     frame: &mut [u8],
@@ -142,7 +179,8 @@ fn draw_line(
     )
 }
 
-// Draws a text; gives the next position of its last line, and how many characters are not listed if `counts`.
+// Draws a text; replies, if `replies`, the next position of its last line and how many characters are not listed. Else the first line below the
+// clip ends it: the lines after that one stand no higher.
 pub fn draw(
     frame: &mut [u8],
     target: DrawTarget,
@@ -151,23 +189,28 @@ pub fn draw(
     text: &[u8],
     font: MonoFont,
     layout: TextLayout,
-    counts: bool,
+    replies: bool,
 ) -> DrawnText
     requires { ⌜ Canvas target (length (now frame)) ⌝ }
     requires { ⌜ FontLimits font ⌝ }
     requires { ⌜ WithinLimit (now mapping) ⌝ }
     requires { ⌜ TextLimits (length (now text)) (layout .position .x) (layout .position .y) (layout .«text_style» .«line_height») ⌝ }
     ensures { λ _. ⌜ now (frame .exit) ≡ paintOn target (layer (fontOf font (now (atlas .entry)) (now (mapping .entry))) (laidOut layout (now (text .entry)))) (now (frame .entry)) ⌝ }
-    ensures { λ r. ⌜ r .next ≡ next font (laidOut layout (now (text .entry))) ⌝ }
-    ensures { λ r. ⌜ r .replaced ≡ cond counts (replaced (fontOf font (now (atlas .entry)) (now (mapping .entry))) (laidOut layout (now (text .entry)))) 0 ⌝ }
+    ensures { λ r. ⌜ r .next ≡ cond replies (next font (laidOut layout (now (text .entry)))) (layout .position) ⌝ }
+    ensures { λ r. ⌜ r .replaced ≡ cond replies (replaced (fontOf font (now (atlas .entry)) (now (mapping .entry))) (laidOut layout (now (text .entry)))) 0 ⌝ }
 {
     let text_style = layout.text_style;
     let kind = text_style.line_height;
     let height = line_height(font, kind);
+    let clip = target.clip_area;
     let mut from: usize = 0;
     let mut y = layout.position.y;
     let mut replaced: u32 = 0;
     loop {
+        if is_left_out(clip, font, text_style, y, replies) {
+            let next = layout.position;
+            return DrawnText { next, replaced };
+        }
         let end = line_end(text, from);
         let drawn = draw_line(
             frame,
@@ -178,11 +221,12 @@ pub fn draw(
             font,
             layout,
             y,
-            counts,
+            replies,
         );
         replaced = replaced + drawn.replaced;
         if text.len() <= end {
-            let next = Point { x: drawn.next, y };
+            let last = Point { x: drawn.next, y };
+            let next = next_if(replies, last, layout.position);
             return DrawnText { next, replaced };
         }
         from = end + 1;

@@ -11,8 +11,8 @@ baseline-offset-requires c κs = search needs
 minus-requires : tie.Need-minus-requires
 minus-requires c κs = search needs
 
-minus-requires-2 : tie.Need-minus-requires-2
-minus-requires-2 c κs = search needs
+is-below-requires : tie.Need-is-below-requires
+is-below-requires c κs = search needs
 
 returns : tie.Need-returns
 returns c = search apart-above
@@ -23,11 +23,11 @@ most-width-requires c κs = search needs
 start-reach-requires : tie.Need-start-reach-requires
 start-reach-requires c κs = search needs
 
+minus-requires-2 : tie.Need-minus-requires-2
+minus-requires-2 c κs = search needs
+
 minus-requires-3 : tie.Need-minus-requires-3
 minus-requires-3 c κs = search needs
-
-minus-requires-4 : tie.Need-minus-requires-4
-minus-requires-4 c κs = search needs
 
 returns-2 : tie.Need-returns-2
 returns-2 c = search apart-left
@@ -56,12 +56,12 @@ is-apart-spec =
     (tie.spec
     baseline-offset-requires
     minus-requires
-    minus-requires-2
+    is-below-requires
     returns
     most-width-requires
     start-reach-requires
+    minus-requires-2
     minus-requires-3
-    minus-requires-4
     returns-2
     add-if3
     add-if3-2
