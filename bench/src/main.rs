@@ -97,7 +97,7 @@ enum Clear {
 fn draw_pages(station: &dyn Station) {
     println!("a page, ns                             station     check     crate   ratio   without the check");
     use Clear::{AtOnce, ByRow};
-    let pages: [(&str, SheetModel, Clear); 10] = [
+    let pages: [(&str, SheetModel, Clear); 13] = [
         (
             "64 lines of 32, 320 x 200, background",
             pages::lines(1),
@@ -108,6 +108,17 @@ fn draw_pages(station: &dyn Station) {
             pages::lines(0),
             AtOnce,
         ),
+        (
+            "64 lines of 32, two rows shown each",
+            pages::hanging(2),
+            AtOnce,
+        ),
+        (
+            "64 lines of 32, one row shown each",
+            pages::hanging(1),
+            AtOnce,
+        ),
+        ("64 lines of 32 below the frame", pages::hanging(0), AtOnce),
         ("dense, 256 x 256", pages::dense(), AtOnce),
         (
             "8 characters, end of 65,536",

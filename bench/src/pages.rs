@@ -82,6 +82,15 @@ pub fn lines(background: u8) -> SheetModel {
     sheet
 }
 
+/// The same lines all hanging under the lower edge: the first `shown` rows of each are on the frame.
+pub fn hanging(shown: usize) -> SheetModel {
+    let mut sheet = lines(1);
+    for item in &mut sheet.items {
+        item.y = (usize::from(sheet.height) - shown) as i16;
+    }
+    sheet
+}
+
 /// 64 lines of 32 characters on 320 × 200, 3 rows apart: each ink box overlaps four others.
 pub fn overlapping() -> SheetModel {
     let mut sheet = sheet(320, 200, font(5, 6, ASCII));
