@@ -40,6 +40,8 @@ faults! {
     BackgroundUnderMissingGlyphs,
     UnderlineBeforeStrikethrough,
     NextPositionIn16Bits,
+    NextPositionLostBelowTheFrame,
+    LinesOfTheLastRowLeftOut,
     EmptyBoxAligned,
     SurrogatesCounted,
     LastPositionAsIndex,
@@ -100,6 +102,14 @@ fn has_glyph(font: &Font, sheet: &[u8], index: u32) -> bool {
     }
     let rows = font.atlas(sheet).len() as u32 / font.atlas_width.div_ceil(8);
     index / (font.atlas_width / cw) * ch + ch <= rows
+}
+
+/// How many rows of the frame lie from an item's ink on down.
+fn rows_shown(sheet: &[u8], item: usize) -> i32 {
+    let height = Header::read(sheet).height as i32;
+    Plain
+        .ink_box(sheet, item)
+        .map_or(height, |ink| height - ink.top)
 }
 
 impl Faulty {
@@ -180,12 +190,13 @@ impl Faulty {
     }
 
     // The next x that is replied by mistake.
-    fn next_x(&self, sheet: &[u8], item: &Item, x: i32) -> i32 {
+    fn next_x(&self, sheet: &[u8], number: usize, item: &Item, x: i32) -> i32 {
         let font = Font::read(sheet, item.font as usize);
         let text = item.text(sheet);
         let last = text.rsplit(|byte| *byte == b'\n').next().unwrap_or(text);
         match self.0 {
             Fault::NextPositionIn16Bits => i32::from(x as i16),
+            Fault::NextPositionLostBelowTheFrame if rows_shown(sheet, number) < 1 => item.x,
             Fault::CentreRoundedDown if item.alignment == 1 && last.is_empty() => x + 1,
             Fault::TrailingSpacingLeftOut if is_unpainted(item) && x != item.x => {
                 x - font.spacing as i32
@@ -418,7 +429,7 @@ impl Station for Faulty {
             (drawn.x, drawn.y) = Plain.draw_item(&self.drawn(sheet), frame, number);
         }
         let item = Item::read(sheet, number);
-        drawn.x = self.next_x(sheet, &item, drawn.x);
+        drawn.x = self.next_x(sheet, number, &item, drawn.x);
         drawn.replaced = self.replaced(sheet, number, &item, drawn.replaced);
         drawn
     }
@@ -430,7 +441,14 @@ impl Station for Faulty {
     }
 
     fn draw(&self, sheet: &[u8], frame: &mut [u8]) -> u32 {
-        GOOD.draw(sheet, frame)
+        let code = GOOD.draw(sheet, frame);
+        if self.0 == Fault::LinesOfTheLastRowLeftOut && code == 0 {
+            let mut model = SheetModel::decode(sheet);
+            let mut shown = (0..).map(|number| rows_shown(sheet, number) != 1);
+            model.items.retain(|_| shown.next() == Some(true));
+            Plain.draw(&model.encode(), frame);
+        }
+        code
     }
 
     fn edit(&self, sheet: &mut [u8], frame: &mut [u8], item: u32, edit: Edit) -> Area {

@@ -1,7 +1,7 @@
 -- An item as it is read: it is the definitions' item, and within the limits of drawing. Assumes nothing.
 use Prim.Native.Nat.{ℕ, _+_, _-_, _≤_}
 use native.Mathlib.Omega.{arith}
-use mathlib.Core.Path.{_≡_, refl, ap, _∙_}
+use mathlib.Core.Path.{_≡_, refl, sym, ap, _∙_}
 use mathlib.Core.Bool.{Bool, true, cond}
 use mathlib.Core.List.{List}
 use lib.ListN.{length, length-take}
@@ -14,11 +14,13 @@ use Rattle.geometry.specs.Canvas.{Canvas, paintOn}
 use Rattle.mapping.specs.Entries.{WithinLimit}
 use Rattle.line.specs.declared.MonoFont.{MonoFont}
 use Rattle.line.specs.declared.MonoTextStyle.{MonoTextStyle}
-use Rattle.line.specs.Line.{fontOf, baselineOffset, whitespace}
+use Rattle.line.specs.Line.{fontOf, baselineOffset, topEdge, whitespace}
 use Rattle.line.specs.Limits.{FontLimits}
 use Rattle.text.specs.declared.TextStyle.{TextStyle}
 use Rattle.text.specs.Text.{textOf, layer, next, replaced, boundingBox, inkBox}
+use Rattle.text.specs.Lines.{isBelow}
 use Rattle.text.specs.Limits.{TextLimits}
+use Rattle.text.proofs.InkBounds.{apart-above}
 use Rattle.sheet.specs.Fields.{part, itemAt, fontAt, fontNumber, atlasBytes, mappingBytes, textBytes, frameWidth}
 use Rattle.sheet.specs.Requires.{FontListed, ItemListed}
 use Rattle.records.specs.Records.{monoFont, font, monoTextStyle, textStyle, itemOf, item, itemFont}
@@ -97,10 +99,10 @@ module _ (b : List ℕ) (n : ℕ) where
 
 -- ---- what of an item tells where it stands
 
-module _ (b : List ℕ) (n k : ℕ) (f : MonoFont) (p : Point) (t : TextStyle) (text : List ℕ) (g : ItemListed b n)
+module _ (b : List ℕ) (n k : ℕ) (f : MonoFont) (p : Point) (t : TextStyle) (g : ItemListed b n)
     (ek : k ≡ fontNumber b (itemAt b n)) (ef : f ≡ monoFont b (fontAt k)) (limits : FontLimits f)
     (ep : p ≡ itemOf b (itemAt b n) .position) (px : p .x ≤ 4_194_304) (py : p .y ≤ 4_194_304)
-    (et : t ≡ textStyle b (itemAt b n)) (ew : text ≡ textBytes b (itemAt b n)) where
+    (et : t ≡ textStyle b (itemAt b n)) where
   layout : Item
   layout = record { «font_number» = k; font = f; position = p; «character_style» = monoTextStyle b (itemAt b n); «text_style» = t }
 
@@ -108,15 +110,21 @@ module _ (b : List ℕ) (n k : ℕ) (f : MonoFont) (p : Point) (t : TextStyle) (
   unfolding layout
   layout-read = item-read b n k f p (monoTextStyle b (itemAt b n)) t g ek ef limits ep px py refl et
 
-  pub layout-limits : TextLimits (length text) (p .x) (p .y) (t .«line_height»)
+  pub layout-limits : (text : List ℕ) → text ≡ textBytes b (itemAt b n) → TextLimits (length text) (p .x) (p .y) (t .«line_height»)
   unfolding layout
-  layout-limits = item-limits b n layout text layout-read ew
+  layout-limits text ew = item-limits b n layout text layout-read ew
+
+  -- a text that starts below a clip has no ink in it
+  pub layout-below : (r : Bool) (clip : Rectangle) → r ≡ isBelow clip (topEdge f (t .baseline) (p .y)) → r ≡ true → isEmpty (intersection (itemInk b n) clip) ≡ true
+  unfolding layout
+  layout-below r clip e holds =
+      rw (← item-ink b n layout (textBytes b (itemAt b n)) layout-read refl _ refl) (apart-above f (textBytes b (itemAt b n)) (p .x) (p .y) t (monoTextStyle b (itemAt b n)) clip (sym e ∙ holds))
 
   -- what holds in any style holds in the item's
-  pub layout-apart : (r : Bool) (clip : Rectangle) → (r ≡ true → (s : MonoTextStyle) → isEmpty (intersection (inkBox f (textOf text (p .x) (p .y) s t)) clip) ≡ true) → r ≡ true
+  pub layout-apart : (text : List ℕ) (r : Bool) (clip : Rectangle) → text ≡ textBytes b (itemAt b n) → (r ≡ true → (s : MonoTextStyle) → isEmpty (intersection (inkBox f (textOf text (p .x) (p .y) s t)) clip) ≡ true) → r ≡ true
       → isEmpty (intersection (itemInk b n) clip) ≡ true
   unfolding layout
-  layout-apart r clip h e = rw (← item-ink b n layout text layout-read ew _ refl) (h e (monoTextStyle b (itemAt b n)))
+  layout-apart text r clip ew h e = rw (← item-ink b n layout text layout-read ew _ refl) (h e (monoTextStyle b (itemAt b n)))
 
 -- ---- the frame as it is read
 

@@ -24,6 +24,18 @@ pub fn item_ink(sheet: &[u8], n: u32) -> Rectangle
     text::ink_box(text, font, style, text_style, p.x, p.y)
 }
 
+// Whether an item starts below a clip, so that the clip does not meet its ink box; the text is not read.
+fn starts_below(sheet: &[u8], clip: Rectangle, n: u32) -> bool
+    requires { ⌜ ItemListed (now sheet) n ⌝ }
+    ensures { λ r. ⌜ (r ≡ true → isEmpty (intersection (itemInk (now (sheet .entry)) n) clip) ≡ true) ⌝ }
+{
+    let font_number = records::font_number(sheet, n);
+    let font = records::font_at(sheet, font_number);
+    let p = records::position(sheet, n);
+    let text_style = records::text_style(sheet, n);
+    text::starts_below(clip, font, text_style, p.y)
+}
+
 // Whether an item's place, heights and bytes tell that the clip does not meet its ink box; the other fields are not read.
 fn is_apart(sheet: &[u8], clip: Rectangle, n: u32) -> bool
     requires { ⌜ ItemListed (now sheet) n ⌝ }
@@ -39,11 +51,14 @@ fn is_apart(sheet: &[u8], clip: Rectangle, n: u32) -> bool
 
 // Whether the clip does not meet an item's ink box; "no" may be said of one that it does not meet. The box is found only where the item's rows
 // and columns leave it open, and where the clip has not the column of its x, in or near which nearly every line stands. Of a clip that is the
-// whole frame nothing is asked.
+// whole frame it is only asked whether the item starts below it.
 pub fn is_missed(sheet: &[u8], clip: Rectangle, whole: bool, n: u32) -> bool
     requires { ⌜ ItemListed (now sheet) n ⌝ }
     ensures { λ r. ⌜ (r ≡ true → isEmpty (intersection (itemInk (now (sheet .entry)) n) clip) ≡ true) ⌝ }
 {
+    if starts_below(sheet, clip, n) {
+        return true;
+    }
     if whole {
         return false;
     }

@@ -9,6 +9,7 @@ use borrow.Author.Tests.{leb-true}
 use Rattle.geometry.specs.declared.Rectangle.{Rectangle}
 use Rattle.geometry.specs.declared.DrawTarget.{DrawTarget}
 use Rattle.geometry.specs.Canvas.{paintOn}
+use Rattle.line.specs.declared.Baseline.{Baseline}
 use Rattle.line.specs.declared.MonoFont.{MonoFont}
 use Rattle.line.specs.Line.{Font, baselineOffset, topEdge}
 use Rattle.line.specs.Line
@@ -34,21 +35,21 @@ module _ (f : Font) (t : Text) where
       let h = leb-true (target .«clip_area» .height) (topEdge (f .mono) (t .textStyle .baseline) y - target .«clip_area» .top) e in
       paint-unseen target _ xs (λ c r grey i. lines-above ls y c r grey (omega arith))
 
--- ---- `is_below` and `is_left_out`
+-- ---- `starts_below` and `is_left_out`
 
-pub below-tested : (clip : Rectangle) (top room : ℕ) → room ≡ top - clip .top → leb (clip .height) room ≡ isBelow clip top
+pub below-tested : (clip : Rectangle) (m : MonoFont) (b : Baseline) (y offset top room : ℕ) → offset ≡ baselineOffset m b → top ≡ y - offset → room ≡ top - clip .top
+    → leb (clip .height) room ≡ isBelow clip (topEdge m b y)
 unfolding isBelow
-below-tested clip top room e = rw e
+below-tested clip m b y offset top room eo et er = rw (er, et, eo)
 
 module _ (clip : Rectangle) (m : MonoFont) (t : TextStyle) (y : ℕ) (replies : Bool) where
   pub left-asked : replies ≡ true → false ≡ isLeftOut clip m t y replies
   unfolding isLeftOut
   left-asked e = rw e
 
-  pub left-below : (offset top : ℕ) (below : Bool) → replies ≡ false → offset ≡ baselineOffset m (t .baseline) → top ≡ y - offset → below ≡ isBelow clip top
-      → below ≡ isLeftOut clip m t y replies
+  pub left-below : (below : Bool) → replies ≡ false → below ≡ isBelow clip (topEdge m (t .baseline) y) → below ≡ isLeftOut clip m t y replies
   unfolding isLeftOut
-  left-below offset top below e eo et eb = rw (e, eb, et, eo)
+  left-below below e eb = rw e eb
 
   -- what a line that is left out tells
   module _ (left : Bool) (el : left ≡ isLeftOut clip m t y replies) (holds : left ≡ true) where

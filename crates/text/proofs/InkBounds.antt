@@ -3,7 +3,7 @@ use Prim.Native.Nat.{ℕ, suc, _+_, _-_, _*_, _≤_, _<_, max}
 use native.Mathlib.Nat.{mul-le-mul, mul-le-mul-right}
 use native.Mathlib.Omega.{arith}
 use native.Mathlib.Numerals.{add-one}
-use mathlib.Core.Path.{_≡_, refl, sym, _∙_}
+use mathlib.Core.Path.{_≡_, refl}
 use mathlib.Core.Bool.{Bool, true, false, cond}
 use mathlib.Core.List.{List, [], _∷_, map, List·Memᴰ, List·Memᴰ·head, List·Memᴰ·tail}
 use lib.ListN.{length, drop, getD, drop-of-length-le}
@@ -222,7 +222,7 @@ module _ (m : MonoFont) (font : FontLimits m) (text : List ℕ) (short : length 
         pub depth-fits : Fits w32 (feeds * lower + ink)
         depth-fits = omega (arith, depth-small)
 
--- ---- `is_apart`: a clip below the ink box, beside it or above it
+-- ---- `is_apart`, and `starts_below` before it: a clip above the ink box, beside it or below it
 
 module _ (m : MonoFont) (text : List ℕ) (x y : ℕ) (ts : TextStyle) (s : MonoTextStyle) where
   abbrev whole : Text
@@ -237,11 +237,11 @@ module _ (m : MonoFont) (text : List ℕ) (x y : ℕ) (ts : TextStyle) (s : Mono
       lines-held m whole (length text) y spanned (lines text) y (nowhere whole) (λ l i. length-line text l i) (omega arith) (rw (length-lines text) (omega arith))
       (λ e. absurd (omega (arith, not-empty (nowhere whole) e)))
 
-  module _ (clip : Rectangle) (offset top : ℕ) (eo : offset ≡ baselineOffset m (ts .baseline)) (et : top ≡ y - offset) where
-    pub apart-above : (below : Bool) → below ≡ isBelow clip top → below ≡ true → isEmpty (intersection (inkBox m whole) clip) ≡ true
-    unfolding isBelow
-    apart-above below e h = held-apart _ _ _ _ (inkBox m whole) clip ink-held (λ c r p q u v i. omega (arith, leb-true (clip .height) (top - clip .top) (sym e ∙ h)))
+  pub apart-above : (clip : Rectangle) → isBelow clip (topEdge m (ts .baseline) y) ≡ true → isEmpty (intersection (inkBox m whole) clip) ≡ true
+  unfolding isBelow
+  apart-above clip e = let h = leb-true (clip .height) (topEdge m (ts .baseline) y - clip .top) e in held-apart _ _ _ _ (inkBox m whole) clip ink-held (λ c r p q u v i. omega arith)
 
+  module _ (clip : Rectangle) (offset top : ℕ) (eo : offset ≡ baselineOffset m (ts .baseline)) (et : top ≡ y - offset) where
     pub apart-below : (depth : ℕ) → depth ≡ spanned + inkHeight m → leb (top + depth) (clip .top) ≡ true → isEmpty (intersection (inkBox m whole) clip) ≡ true
     apart-below depth e h = held-apart _ _ _ _ (inkBox m whole) clip ink-held (λ c r p q u v i. omega (arith, leb-true (top + depth) (clip .top) h))
 

@@ -3,7 +3,6 @@
 use super::Alignment;
 use super::LineHeight;
 use super::TextStyle;
-use super::is_below;
 use super::line_corner;
 use super::line_height;
 use characters::lines::line_end;
@@ -231,8 +230,8 @@ fn ink_depth(text: &[u8], font: MonoFont, height: LineHeight) -> u32
     feeds * lower + line::ink_height(font)
 }
 
-// Whether a text's ink box, in whatever style, is known not to meet a clip: the clip ends above its first line, lies beside what its widest line
-// could reach, or starts below its last line.
+// Whether a text's ink box, in whatever style, is known not to meet a clip: the clip lies beside what its widest line could reach, or starts
+// below its last line.
 pub fn is_apart(
     text: &[u8],
     font: MonoFont,
@@ -245,11 +244,6 @@ pub fn is_apart(
     requires { ⌜ TextLimits (length (now text)) x y («text_style» .«line_height») ⌝ }
     ensures { λ r. ⌜ (r ≡ true → (style : MonoTextStyle) → isEmpty (intersection (inkBox font (textOf (now (text .entry)) x y style «text_style»)) clip) ≡ true) ⌝ }
 {
-    let baseline = text_style.baseline;
-    let top = minus(y, line::baseline_offset(font, baseline));
-    if is_below(clip, top) {
-        return true;
-    }
     let widest = most_width(text, font);
     let alignment = text_style.alignment;
     let reach = start_reach(alignment, widest);
@@ -259,6 +253,8 @@ pub fn is_apart(
     if x + reach + widest <= clip.left {
         return true;
     }
+    let baseline = text_style.baseline;
+    let top = minus(y, line::baseline_offset(font, baseline));
     let height = text_style.line_height;
     top + ink_depth(text, font, height) <= clip.top
 }

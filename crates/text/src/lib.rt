@@ -20,7 +20,7 @@ ghost use lib.ListN.{length};
 ghost use Rattle.geometry.specs.Canvas.{Canvas, paintOn};
 ghost use Rattle.characters.specs.Utf8.{chars};
 ghost use Rattle.mapping.specs.Entries.{WithinLimit};
-ghost use Rattle.line.specs.Line.{fontOf, measuredWidth};
+ghost use Rattle.line.specs.Line.{fontOf, topEdge, measuredWidth};
 ghost use Rattle.line.specs.Limits.{FontLimits};
 ghost use Rattle.text.specs.Text.{laidOut, alignedStart, lineHeight, placeLine, lineLayer, layer, lineNext, next, lineReplaced, replaced};
 ghost use Rattle.text.specs.Lines.{lineCorner, isBelow, isLeftOut};
@@ -106,10 +106,13 @@ fn line_corner(line: &[u8], font: MonoFont, text_style: TextStyle, x: u32, y: u3
     Point { x: left, y: top }
 }
 
-// Whether no row from `top` on is one of a clip's, since they all lie below it.
-fn is_below(clip: Rectangle, top: u32) -> bool
-    ensures { λ r. ⌜ r ≡ isBelow clip top ⌝ }
+// Whether a text at y starts below a clip, so that nothing of it is shown.
+pub fn starts_below(clip: Rectangle, font: MonoFont, text_style: TextStyle, y: u32) -> bool
+    requires { ⌜ FontLimits font ⌝ }
+    ensures { λ r. ⌜ r ≡ isBelow clip (topEdge font («text_style» .baseline) y) ⌝ }
 {
+    let baseline = text_style.baseline;
+    let top = minus(y, line::baseline_offset(font, baseline));
     clip.height <= minus(top, clip.top)
 }
 
@@ -127,9 +130,7 @@ fn is_left_out(
     if replies {
         return false;
     }
-    let baseline = text_style.baseline;
-    let top = minus(y, line::baseline_offset(font, baseline));
-    is_below(clip, top)
+    starts_below(clip, font, text_style, y)
 }
 
 // A next position that is asked for, else the text's own.

@@ -7,17 +7,11 @@ use Rattle.text.proofs.is_left_out.Tie as tie
 returns : tie.Need-returns
 returns c = search left-asked
 
-baseline-offset-requires : tie.Need-baseline-offset-requires
-baseline-offset-requires c κs = search needs
-
-minus-requires : tie.Need-minus-requires
-minus-requires c κs = search needs
-
-is-below-requires : tie.Need-is-below-requires
-is-below-requires c κs = search needs
+starts-below-requires : tie.Need-starts-below-requires
+starts-below-requires c κs = search needs
 
 returns-2 : tie.Need-returns-2
 returns-2 c = search left-below
 
 pub is-left-out-spec : {M : Type 1} → statement M
-is-left-out-spec = tie.close (tie.spec returns baseline-offset-requires minus-requires is-below-requires returns-2)
+is-left-out-spec = tie.close (tie.spec returns starts-below-requires returns-2)
