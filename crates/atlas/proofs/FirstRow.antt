@@ -1,11 +1,9 @@
 -- The first row that the loop over a glyph's rows does not run: before it are the cell's rows above the edge, and from it on the glyph paints
 -- nothing that the target shows. Assumes nothing.
-use Prim.Native.Nat.{ℕ, _+_, _-_, _^_, _≤_, _<_, min}
+use Prim.Native.Nat.{ℕ, _+_, _-_, _≤_, _<_, min}
 use native.Mathlib.Omega.{arith}
 use mathlib.Core.Path.{_≡_}
 use mathlib.Core.List.{List}
-use mir.Syntax.{w32}
-use mir.Val.{Fits}
 use Rattle.geometry.specs.declared.DrawTarget.{DrawTarget}
 use Rattle.geometry.specs.declared.OptionalGrey.{OptionalGrey}
 use Rattle.geometry.proofs.Rectangles.{In}
@@ -23,14 +21,14 @@ module _ (top ch edge : ℕ) where
   unfolding firstRowNotRun
   above-run r p q = omega arith
 
-  -- as it is found: `room` rows lie between the top and the edge
-  module _ (room n : ℕ) (er : room ≡ edge - top) (en : n ≡ min ch room) where
-    pub row-found : top + n ≡ firstRowNotRun top ch edge
-    unfolding firstRowNotRun
-    row-found = omega arith
+  -- as it is found
+  pub row-of-top : edge ≤ top → top ≡ firstRowNotRun top ch edge
+  unfolding firstRowNotRun
+  row-of-top h = omega arith
 
-    pub row-fits : top < 2 ^ 32 → edge < 2 ^ 32 → Fits w32 (top + n)
-    row-fits p q = omega arith
+  pub row-below : (n : ℕ) → top < edge → n ≡ min ch (edge - top) → top + n ≡ firstRowNotRun top ch edge
+  unfolding firstRowNotRun
+  row-below n h e = omega arith
 
 pub not-run-unpainted : (t : DrawTarget) (bytes : List ℕ) (a : Atlas) (text background : OptionalGrey) (i left top c r grey : ℕ) → In (t .«clip_area») c r
     → firstRowNotRun top (cellHeight a) (lowerEdge t) ≤ r → glyph bytes a text background i left top c r grey ≡ grey

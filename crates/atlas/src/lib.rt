@@ -5,7 +5,6 @@ use geometry::Point;
 use geometry::Rectangle;
 use geometry::Size;
 use geometry::numbers::least;
-use geometry::numbers::minus;
 use numbers::wide;
 ghost use mathlib.Core.Path.{_≡_};
 ghost use mathlib.Core.Bool.{false};
@@ -191,8 +190,10 @@ fn draw_row(
 fn first_row_not_run(top: u32, height: u32, edge: u32) -> u32
     ensures { λ r. ⌜ r ≡ firstRowNotRun top height edge ⌝ }
 {
-    let room = minus(edge, top);
-    top + least(height, room)
+    if edge <= top {
+        return top;
+    }
+    top + least(height, edge - top)
 }
 
 // Draws the atlas from its pixel (x, y) on in a cell of which the target shows some, row by row down to the cell's foot or the target's; gives
