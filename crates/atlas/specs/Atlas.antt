@@ -1,4 +1,5 @@
--- An atlas's rows of bits and its glyphs' cells (docs/SHEET.md, Atlas). Assumes nothing.
+-- An atlas's rows of bits, its glyphs' cells, and where the loop over a cell's rows stops (docs/SHEET.md, Atlas and Stop below the frame).
+-- Assumes nothing.
 -- To be believed: it says what a sheet means.
 use Prim.Native.Nat.{ℕ, _+_, _-_, _*_, _/_, _%_, _^_, min, max}
 use mathlib.Core.Bool.{Bool, cond, _&&_}
@@ -57,7 +58,7 @@ glyph bytes a text background i left top c r grey =
     (image bytes (rowBytes a) (glyphColumn a i) (glyphRow a i) left top text background) c r grey)
     grey
 
--- ---- the loop over a glyph's rows (docs/SHEET.md, Stop below the frame)
+-- ---- the loop over a glyph's rows
 
 -- "the first row below the frame or rectangle" that a target shows
 abbrev pub lowerEdge : DrawTarget → ℕ
