@@ -1,6 +1,6 @@
 -- Laws of a frame: a run of its pixels painted and put back, and a rectangle of it painted row by row. Assumes nothing.
 use Prim.Native.Nat.{ℕ, suc, _+_, _-_, _*_, _/_, _%_, _≤_, _<_}
-use native.Mathlib.Nat.{add-zero, add-suc, suc-add, add-mul, mul-zero, mul-le-mul-right, mod-lt, div-add-mod', div-lt-iff-lt-mul, le-div-iff-mul-le, eq-zero-or-pos, eq-or-lt-of-le, add-sub-cancel-left}
+use native.Mathlib.Nat.{add-zero, add-suc, suc-add, add-mul, mul-zero, mul-le-mul, mul-le-mul-right, mod-lt, div-add-mod', div-lt-iff-lt-mul, le-div-iff-mul-le, eq-zero-or-pos, eq-or-lt-of-le, add-sub-cancel-left}
 use native.Mathlib.Omega.{arith}
 use mathlib.Core.Path.{_≡_, refl, sym, ap, _∙_}
 use mathlib.Core.List.{List, [], _∷_, _++_}
@@ -123,21 +123,26 @@ rows-next a k f c r grey = ⊎-elim
     (in-or-out (firstRows a k) c r))
     (in-or-out (rowAt a k) c r)
 
--- a row of an area ends within the frame, and its index fits
+-- the index of a row of an area fits, and so does that of the row below its last
+module _ (fw n : ℕ) (a : FrameArea) (k : ℕ) (room : InFrame fw n a) (reach : k ≤ a .height) where
+  row-small : (a .top + k) * fw ≤ 512 * 512
+  row-small = let h : a .top + k ≤ 512 = omega (arith, room) in mul-le-mul h (room .narrow)
+
+  pub row-fits : Fits w64 ((a .top + k) * fw)
+  row-fits = omega (arith, row-small)
+
+  pub row-start-fits : Fits w64 ((a .top + k) * fw + a .left)
+  row-start-fits = omega (arith, row-small, room)
+
+  pub row-end-fits : Fits w64 ((a .top + k) * fw + a .left + a .width)
+  row-end-fits = omega (arith, row-small, room)
+
+-- a row of an area ends within the frame
 module _ (fw n : ℕ) (a : FrameArea) (k : ℕ) (room : InFrame fw n a) (less : k < a .height) where
-  pub row-room : ((a .top + k) * fw + a .left + a .width ≤ n) × (n ≤ 262144)
+  row-room : (a .top + k) * fw + a .left + a .width ≤ n
   row-room =
       let m : (a .top + (k + 1)) * fw ≤ (a .top + a .height) * fw = mul-le-mul-right fw (omega arith) in
       omega (arith, room)
-
-  pub row-fits : Fits w64 ((a .top + k) * fw)
-  row-fits = omega (arith, row-room)
-
-  pub row-start-fits : Fits w64 ((a .top + k) * fw + a .left)
-  row-start-fits = omega (arith, row-room)
-
-  pub row-end-fits : Fits w64 ((a .top + k) * fw + a .left + a .width)
-  row-end-fits = omega (arith, row-room)
 
   pub row-end-in : (frame : List ℕ) → length frame ≡ n → (a .top + k) * fw + a .left + a .width ≤ length frame
   row-end-in frame e = omega (arith, row-room)

@@ -46,4 +46,5 @@ pub record InFrame (fw n : ℕ) (a : FrameArea) : Type 0 where
   pub right : a .left + a .width ≤ fw
   pub foot : (a .top + a .height) * fw ≤ n
   pub low : a .top + a .height ≤ 512
+  pub narrow : fw ≤ 512
   pub small : n ≤ 262_144

@@ -77,13 +77,17 @@ module _ (target : DrawTarget) (f : Font) (text : List ℕ) (t : TextLayout) (re
   unfolding layer next replaced placedLines
   lines-start h = record { painted = refl; position = refl; counted = omega arith; few = omega arith; start = omega arith; short = h; size = refl }
 
-  -- where a line is left out, all that is shown is drawn, and no reply is asked for
-  module _ (from y n : ℕ) (left-out : Bool) (frame : List ℕ) (d : LinesDrawn from y n frame) (el : left-out ≡ isLeftOut (target .«clip_area») (f .mono) (t .«text_style») y replies) (holds : left-out ≡ true) where
-    pub left-painted : frame ≡ paintOn target (layer f whole) frame₀
-    left-painted = lines-below f whole target (lines (drop from text)) y frame (left-unshown _ _ _ _ _ left-out el holds) ∙ d .painted
+  -- where a line is left out, all that is shown is drawn
+  module _ (from y n : ℕ) (left-out : Bool) (frame : List ℕ) (d : LinesDrawn from y n frame) (holds : left-out ≡ true) where
+    pub left-painted : (asked : Bool) → left-out ≡ isLeftOut (target .«clip_area») (f .mono) (t .«text_style») y asked → frame ≡ paintOn target (layer f whole) frame₀
+    left-painted asked el = lines-below f whole target (lines (drop from text)) y frame (left-unshown _ _ _ _ asked left-out el holds) ∙ d .painted
 
-    pub left-count : n ≡ cond replies (replaced f whole) 0
-    left-count = let e = rw (left-unasked _ _ _ _ _ left-out el holds) at (d .counted) in rw (left-unasked _ _ _ _ _ left-out el holds) (omega arith)
+    -- and where no reply is asked for, none is counted
+    pub left-count : left-out ≡ isLeftOut (target .«clip_area») (f .mono) (t .«text_style») y replies → n ≡ cond replies (replaced f whole) 0
+    left-count el =
+        let unasked = left-unasked _ _ _ _ replies left-out el holds in
+        let e = rw unasked at (d .counted) in
+        rw unasked (omega arith)
 
   module _ (from end y n : ℕ) (frame next-frame : List ℕ) (d : LinesDrawn from y n frame) (e : end ≡ from + lineLength (drop from text))
       (p : next-frame ≡ paintOn target (lineLayer f (laidOut t (take (end - from) (drop from text))) (placeLine (f .mono) (laidOut t (take (end - from) (drop from text))) (take (end - from) (drop from text)) y)) frame) where
