@@ -4,13 +4,16 @@
 use check::same;
 use libc::STDIN_FILENO;
 use numbers::byte_or_zero;
+use programs::checksum;
+use programs::fill_strange;
 use programs::write_either;
 use programs::write_line;
 use programs::write_number;
 use programs::write_word;
+use replay::after;
 use replay::edit;
 use replay::edit_on_sheet;
-use replay::least;
+use replay::length_at;
 use replay::part;
 use replay::rest;
 use replay::same_reply;
@@ -27,34 +30,6 @@ fn natural(z: i32) -> usize {
         return 65536;
     }
     z as usize
-}
-
-fn strange_grey(i: usize, shift: usize) -> u8 {
-    (((i % 251) * 37 + shift % 251) % 251) as u8
-}
-
-// Fills a frame with greys that change from pixel to pixel.
-fn fill_strange(frame: &mut [u8], shift: usize) {
-    let mut i = 0;
-    while i < frame.len() {
-        frame[i] = strange_grey(i, shift);
-        i += 1;
-    }
-}
-
-fn checksum_with(sum: u64, byte: u8) -> u64 {
-    ((sum % 4294967291) * 257 + byte as u64 + 1) % 4294967291
-}
-
-// The checksum of bytes: from 0, each makes it 257 times as much, and the byte, and 1, modulo 4,294,967,291.
-fn checksum(bytes: &[u8]) -> u64 {
-    let mut sum = 0;
-    let mut i = 0;
-    while i < bytes.len() {
-        sum = checksum_with(sum, bytes[i]);
-        i += 1;
-    }
-    sum
 }
 
 // Whether `at` is one of `size` numbers from `from` on.
@@ -189,20 +164,6 @@ fn make_edit(
     );
 }
 
-// The place after an edit in the list.
-fn after(at: usize, size: usize, end: usize) -> usize
-    requires { ⌜ at < end ⌝ }
-    ensures { λ r. ⌜ (at < r) × (r ≤ end) ⌝ }
-{
-    if size == 0 {
-        return end;
-    }
-    if size < end - at {
-        return at + size;
-    }
-    end
-}
-
 fn write_head(number: u64) {
     write_word(b"edit");
     write_number(number);
@@ -244,8 +205,8 @@ fn start(sheet: &[u8], patched: &mut [u8], frame: &mut [u8], fresh: &mut [u8]) {
 fn write_outcome(patched: &[u8], fresh: &[u8], frame: &[u8], page: &[u8]) {
     write_same(b"sheets", same(patched, fresh));
     write_same(b"frames", same(frame, page));
-    write_line(b"sheet", checksum(patched));
-    write_line(b"frame", checksum(frame));
+    write_line(b"sheet", checksum(0, patched));
+    write_line(b"frame", checksum(0, frame));
 }
 
 // Draws the edited sheet on a second strange frame, and compares it and the page with what the edits left.
@@ -267,13 +228,6 @@ fn compare(
     start(sheet, patched, frame, fresh);
     make_edits(patched, frame, before, fresh, list);
     finish(&patched[..], &frame[..], &fresh[..], before);
-}
-
-// A length that is stored at `at`, at most that of the longest sheet or frame.
-fn length_at(input: &[u8], at: usize) -> usize
-    ensures { λ r. ⌜ r ≤ 65536 ⌝ }
-{
-    least(u32_of(rest(input, at)) as usize, 65536)
 }
 
 // Makes the list on two sheets that are lent, and two frames.

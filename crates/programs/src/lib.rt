@@ -1,4 +1,4 @@
-// What the programs share: words, numbers, refusals and files written, and the number of a sheet's pixels.
+// What the programs share: words, numbers, refusals and files written, the number of a sheet's pixels, strange frames and checksums.
 use libc::STDERR_FILENO;
 use libc::STDOUT_FILENO;
 use sheet::fields::frame_height;
@@ -91,4 +91,33 @@ pub fn pixel_count(sheet: &[u8]) -> usize
     let w = frame_width(sheet) as usize;
     let h = frame_height(sheet) as usize;
     w * h
+}
+
+fn strange_grey(i: usize, shift: usize) -> u8 {
+    (((i % 251) * 37 + shift % 251) % 251) as u8
+}
+
+// Fills a frame with greys that change from pixel to pixel.
+pub fn fill_strange(frame: &mut [u8], shift: usize) {
+    let mut i = 0;
+    while i < frame.len() {
+        frame[i] = strange_grey(i, shift);
+        i += 1;
+    }
+}
+
+fn checksum_with(sum: u64, byte: u8) -> u64 {
+    ((sum % 4294967291) * 257 + byte as u64 + 1) % 4294967291
+}
+
+// The checksum of bytes behind others, whose checksum is `from`, or 0 for none: each byte makes it 257 times as much, and the byte, and 1, modulo
+// 4,294,967,291.
+pub fn checksum(from: u64, bytes: &[u8]) -> u64 {
+    let mut sum = from;
+    let mut i = 0;
+    while i < bytes.len() {
+        sum = checksum_with(sum, bytes[i]);
+        i += 1;
+    }
+    sum
 }

@@ -5,7 +5,7 @@ use numbers::wide;
 use station::Box;
 ghost use mathlib.Core.Path.{_≡_};
 ghost use mathlib.Core.Bool.{true};
-ghost use Prim.Native.Nat.{_+_, _*_, _^_, _<_, min};
+ghost use Prim.Native.Nat.{_+_, _*_, _^_, _<_, _≤_, min};
 ghost use lib.Dec.{leb};
 ghost use lib.ListN.{length, getD, take, drop};
 ghost use mir.Syntax.{w32};
@@ -67,6 +67,27 @@ pub fn rest(bytes: &[u8], at: usize) -> &[u8]
     ensures { λ r. ⌜ now r ≡ drop at (now (bytes .entry)) ⌝ }
 {
     part(bytes, at, bytes.len())
+}
+
+// A length that is stored at `at`, at most that of the longest sheet or frame.
+pub fn length_at(bytes: &[u8], at: usize) -> usize
+    ensures { λ r. ⌜ r ≤ 65536 ⌝ }
+{
+    least(u32_of(rest(bytes, at)) as usize, 65536)
+}
+
+// The place behind an entry of a list that ends at `end`.
+pub fn after(at: usize, size: usize, end: usize) -> usize
+    requires { ⌜ at < end ⌝ }
+    ensures { λ r. ⌜ (at < r) × (r ≤ end) ⌝ }
+{
+    if size == 0 {
+        return end;
+    }
+    if size < end - at {
+        return at + size;
+    }
+    end
 }
 
 // Stores bytes from `at` on and answers true, or false where they do not fit; then nothing is stored.

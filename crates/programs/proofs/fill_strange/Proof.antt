@@ -3,8 +3,8 @@ use Prim.Native.Nat.{_≤_, _-_}
 use mathlib.Core.Path.{_≡_}
 use lib.ListN.{length}
 use borrow.Author.Needs.{needs}
-use Rattle.edit_lists.proofs.fill_strange.Statement.{statement}
-use Rattle.edit_lists.proofs.fill_strange.Tie as tie
+use Rattle.programs.proofs.fill_strange.Statement.{statement}
+use Rattle.programs.proofs.fill_strange.Tie as tie
 
 abbrev Inv-loop : tie.InvT-loop
 Inv-loop frame₀ shift i₀ frame i = (length frame ≡ length frame₀) × (i ≤ length frame₀)

@@ -2,14 +2,14 @@
 use Prim.Native.Nat.{_≤_, _-_}
 use lib.ListN.{length}
 use borrow.Author.Needs.{needs}
-use Rattle.edit_lists.proofs.checksum.Statement.{statement}
-use Rattle.edit_lists.proofs.checksum.Tie as tie
+use Rattle.programs.proofs.checksum.Statement.{statement}
+use Rattle.programs.proofs.checksum.Tie as tie
 
 abbrev Inv-loop : tie.InvT-loop
-Inv-loop bytes sum₀ i₀ sum i = i ≤ length bytes
+Inv-loop from bytes sum₀ i₀ sum i = i ≤ length bytes
 
 abbrev μ-loop : tie.MeasureT-loop
-μ-loop bytes sum₀ i₀ sum i = length bytes - i
+μ-loop from bytes sum₀ i₀ sum i = length bytes - i
 
 loop-holds : tie.Need-loop-holds Inv-loop μ-loop
 loop-holds c = search needs
