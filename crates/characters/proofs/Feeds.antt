@@ -1,15 +1,15 @@
--- The lines of a text, found one by one between two line feeds, and a line without its return. Assumes nothing.
-use Prim.Native.Nat.{ℕ, suc, _+_, _-_, _≤_, _<_}
+-- The lines of a text, found one by one between two line feeds, a line without its return, and a text of one line. Assumes nothing.
+use Prim.Native.Nat.{ℕ, zero, suc, _+_, _-_, _≤_, _<_}
 use native.Mathlib.Omega.{arith}
 use native.Mathlib.Numerals.{add-one}
 use mathlib.Core.Path.{_≡_, refl, sym, ap, _∙_}
 use mathlib.Core.Bool.{Bool, true, false, cond}
-use mathlib.Core.List.{List, [], _∷_}
+use mathlib.Core.List.{List, [], _∷_, _++_}
 use lib.ListN.{length, take, drop, getD, drop-of-length-le, length-take, length-drop}
 use lib.Seq.{drop-cons, drop-drop, length-take-le}
 use lib.Dec.{eqb}
 use borrow.Author.Tests.{eq-eqb, ne-eqb}
-use Rattle.characters.specs.Lines.{before, lines, withoutReturn, lineLength, lineFrom}
+use Rattle.characters.specs.Lines.{before, lines, withoutReturn, OneLine, lineLength, lineFrom}
 
 -- ---- `line_end`: a turn at position i of the text
 
@@ -121,3 +121,26 @@ length-without-return l = go (eqb (getD l (length l - 1) 0) 0x0D)
     go : (t : Bool) → length (cond t (take (length l - 1) l) l) ≤ length l
     go true = simp length-take (omega arith)
     go false = omega arith
+
+-- ---- a text without feeds and returns
+
+no-feed-lines : (t : List ℕ) → ((k : ℕ) → getD t k 0 ≡ 0x0A → ⊥) → lines t ≡ t ∷ []
+unfolding lines
+no-feed-lines [] h = refl
+no-feed-lines (c ∷ cs) h = rw (ne-eqb c 0x0A (h 0), no-feed-lines cs (λ k. h (suc k)))
+
+module _ (t : List ℕ) (o : OneLine t) where
+  pub one-line : lines t ≡ t ∷ []
+  one-line = no-feed-lines t (o .no-feed)
+
+  pub nothing-dropped : withoutReturn t ≡ t
+  nothing-dropped = sym (return-absent t (o .no-return (length t - 1)))
+
+-- a byte that neither of two texts has, they have not together
+absent-append : (b : ℕ) (t u : List ℕ) → ((k : ℕ) → getD t k 0 ≡ b → ⊥) → ((k : ℕ) → getD u k 0 ≡ b → ⊥) → (k : ℕ) → getD (t ++ u) k 0 ≡ b → ⊥
+absent-append b [] u p q k = q k
+absent-append b (c ∷ cs) u p q zero = p 0
+absent-append b (c ∷ cs) u p q (suc k) = absent-append b cs u (λ j. p (suc j)) q k
+
+pub one-line-append : (t u : List ℕ) → OneLine t → OneLine u → OneLine (t ++ u)
+one-line-append t u o p = record { no-feed = absent-append 0x0A t u (o .no-feed) (p .no-feed); no-return = absent-append 0x0D t u (o .no-return) (p .no-return) }
