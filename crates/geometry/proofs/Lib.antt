@@ -1,5 +1,6 @@
 pub mod Rectangles
 pub mod Layers
+pub mod Beside
 pub mod Rows
 pub mod Frames
 pub mod Clips

@@ -12,7 +12,7 @@ use Rattle.characters.specs.Utf8.{chars}
 use Rattle.atlas.proofs.Glyphs.{glyph-out}
 use Rattle.line.specs.declared.DecorationDimensions.{DecorationDimensions}
 use Rattle.line.specs.declared.MonoTextStyle.{MonoTextStyle}
-use Rattle.line.specs.Line.{Font, characterWidth, characterHeight, spacing, character, glyphs, spaced, advance, decoration, decorations, glyphIndex, string, inkHeight, inkBox}
+use Rattle.line.specs.Line.{Font, characterWidth, characterHeight, spacing, character, glyphs, spaced, decoration, decorations, glyphIndex, string, inkHeight, inkBox}
 use Rattle.line.proofs.Advances.{spaced-advance}
 
 module _ (c r : ℕ) where
@@ -38,6 +38,6 @@ module _ (c r : ℕ) where
   string-out f s text x top grey o =
       let n = length (chars text) in
       let e : length (map (glyphIndex f) (chars text)) ≡ n = simp length-map in
-      decoration-out (f .mono .underline) _ (advance (f .mono) s n) x top _ (λ h. o (omega arith))
-      ∙ decoration-out (f .mono .strikethrough) _ (advance (f .mono) s n) x top _ (λ h. o (omega arith))
+      decoration-out (f .mono .underline) _ _ x top _ (λ h. o (omega arith))
+      ∙ decoration-out (f .mono .strikethrough) _ _ x top _ (λ h. o (omega arith))
       ∙ glyphs-out f s 0 (map (glyphIndex f) (chars text)) x top grey (rw e (λ h. o (omega (arith, spaced-advance (f .mono) s n))))

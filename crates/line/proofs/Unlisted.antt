@@ -5,7 +5,7 @@ use native.Mathlib.Omega.{arith}
 use mathlib.Core.Path.{_≡_, refl, sym, _∙_}
 use mathlib.Core.Bool.{Bool, true, false, not, cond, _||_, or-true, true≢false}
 use mathlib.Mathlib.Data.Bool.Basic.{or-eq-false-eq-eq-false-and-eq-false}
-use mathlib.Core.List.{List, [], _∷_}
+use mathlib.Core.List.{List, [], _∷_, _++_}
 use borrow.Author.Tests.{not-true, ltb-true, leb-true, le-ltb, lt-leb, le-leb}
 use lib.Dec.{ltb, leb}
 use lib.ListN.{length}
@@ -47,6 +47,12 @@ counted-few false n = omega arith
 pub counted-if : (counts : Bool) (m n r : ℕ) → (counts ≡ true → m ≡ n) → r ≡ cond counts m 0 → r ≡ cond counts n 0
 counted-if true m n r h e = e ∙ h refl
 counted-if false m n r h e = e
+
+-- those of two lists together
+pub unlisted-append : (mapping chs more : List ℕ) → unlisted mapping (chs ++ more) ≡ unlisted mapping chs + unlisted mapping more
+unfolding unlisted
+unlisted-append mapping [] more = omega arith
+unlisted-append mapping (ch ∷ chs) more = omega (arith, unlisted-append mapping chs more)
 
 -- no more than there are
 pub unlisted-few : (mapping chs : List ℕ) → unlisted mapping chs ≤ length chs

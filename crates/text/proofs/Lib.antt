@@ -5,6 +5,7 @@ pub mod Below
 pub mod Drawing
 pub mod LineBoxes
 pub mod Lines
+pub mod Joining
 pub mod Exact
 pub mod Ink
 pub mod InkBounds
