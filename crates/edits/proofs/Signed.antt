@@ -1,8 +1,8 @@
 -- A signed number of 32 bits, as the code reads it: its range, and its coordinate. Assumes nothing.
-use Prim.Native.Nat.{ℕ, suc, _≤_, _<_, _^_}
+use Prim.Native.Nat.{ℕ, suc, _-_, _≤_, _<_, _^_}
 use mathlib.Core.Path.{_≡_, refl, sym, _∙_, ap}
-use mathlib.Core.Bool.{true, false}
-use lib.Dec.{T}
+use mathlib.Core.Bool.{Bool, true, false, cond}
+use lib.Dec.{T, ltb}
 use lib.IntN.{ℤ, pos, negsuc, natAbs, _+ℤ_}
 use lib.Signed.{ltZ, nonNeg}
 use native.Mathlib.Omega.{arith}
@@ -10,7 +10,7 @@ use mir.Syntax.{w32}
 use mir.Val.{toZ, ofZ, Fits, SFits}
 use mir.Facts.{toZ-ofZ}
 use borrow.Author.Tests.{lt-ltb, le-ltb, ltb-true, ltb-false}
-use Rattle.geometry.specs.Layer.{origin}
+use Rattle.geometry.specs.Layer.{origin, signed}
 use Rattle.sheet.specs.Edits.{inRange, biased}
 
 -- the number that the code reads
@@ -36,6 +36,15 @@ small : (z : ℤ) → inRange z ≡ true → biased z < 2 ^ 31
 unfolding inRange biased
 small (pos n) h = let l = ltb-true n 32_768 h in omega arith
 small (negsuc n) h = let l = ltb-true n 32_768 h in omega arith
+
+-- a coordinate comes back from its signed number
+pub biased-signed : (x : ℕ) → biased (signed x) ≡ x
+unfolding biased signed
+biased-signed x = go (ltb x origin) refl
+  where
+    go : (t : Bool) → ltb x origin ≡ t → biased (cond t (negsuc (origin - suc x)) (pos (x - origin))) ≡ x
+    go true e = omega (arith, ltb-true x origin e)
+    go false e = omega (arith, ltb-false x origin e)
 
 module _ (z : ℤ) (f : SFits w32 z) where
   pub below : ltZ (read z) (negsuc 32_767) ≡ true → false ≡ inRange z
