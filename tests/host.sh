@@ -97,6 +97,15 @@ threads() {
   "$1" -std=c99 -O2 "${warnings[@]}" -pthread tests/host/threads.c "$archive" -o "$out/threads" && "$out/threads" samples/hydrograph.sheet
 }
 
+# joined COMPILER: the samples' lines in two runs, and whitespace in two widths.
+joined() {
+  local sheet
+  "$1" -std=c99 -O2 "${warnings[@]}" tests/host/joined.c "$archive" -o "$out/joined" || return
+  for sheet in hydrograph greek georgian table; do
+    "$out/joined" "samples/$sheet.sheet" || return
+  done
+}
+
 # worst COMPILER: the program that times the worst cases; it runs for several seconds, and only its building is tested.
 worst() {
   "$1" -std=c99 -O2 "${warnings[@]}" bench/worst.c "$archive" -o "$out/worst"
@@ -142,6 +151,7 @@ done
 try "stack of each call under 4 KiB, added up" python3 tests/host/stack.py "$archive"
 try "no variables, and memset alone" no_variables
 try "threads on one sheet, gcc" threads gcc
+try "lines in two runs, gcc" joined gcc
 for name in gcc clang; do
   try "worst cases are built, $name" worst "$name"
 done

@@ -17,19 +17,21 @@ import sys
 sys.dont_write_bytecode = True
 os.chdir(os.path.join(os.path.dirname(os.path.abspath(__file__)), ".."))
 sys.path.insert(0, "tools")
+import joined_runs  # noqa: E402
 import paper_model as model  # noqa: E402
 from station_sheet import bdf, explain, layout  # noqa: E402
 from station_sheet.description import FontPart, ItemPart, assemble  # noqa: E402
 from station_sheet.show import decoration, grey  # noqa: E402
 
 PAPER, DEMANDS = "docs/SHEET.md", "docs/DEMANDS.md"
-TITLES = ["Numbers and bytes", "Geometry", "Characters", "Mapping", "Atlas", "One line", "Text", "Replaced characters", "Stop below the frame", "Sheet",
-          "Drawing and edits", "Page and host", "Fonts from BDF", "Replies and refusals", "Worked examples", "How far to trust this"]
+TITLES = ["Numbers and bytes", "Geometry", "Characters", "Mapping", "Atlas", "One line", "Text", "Replaced characters", "Stop below the frame", "Joining strings",
+          "Sheet", "Drawing and edits", "Page and host", "Fonts from BDF", "Replies and refusals", "Worked examples", "How far to trust this"]
 # of the demands and of the rules, which stay as they were given: those of a section that was added later by themselves
 RULES_SHA256 = "df7653ae1b5fa7c823a8a3e8267ee0a349ff420aeddfc030918767c02936e3b3"
 ADDED_SHA256 = {"Fonts from BDF": "3003de7df8c001d7575b8bc67b8094a0c026d0731d9fecd9eea926e9634203e9",
                 "Replaced characters": "31924ba9b6b14562230a5e14e69e8a9307ea06577f6231a310bd952e786666de",
-                "Stop below the frame": "d95a91b7401f9c79495d9311c621255ebd6852a81e5312e5a2307e84e587fc98"}
+                "Stop below the frame": "d95a91b7401f9c79495d9311c621255ebd6852a81e5312e5a2307e84e587fc98",
+                "Joining strings": "b4ba52a891e698318f73a8bf46aa8b1bdb924604c122c3047ab0b824fbe1c3bd"}
 DEMANDS_SHA256 = "81032766de38756c2c69d7a4e908163f27ada3da2dabedc28dca7e1ffc7a224a"
 
 
@@ -630,6 +632,27 @@ def quoted_in_proofs():
 
 # ---- what a reader must believe
 
+JOINING = "crates/station/specs/Joining.antt"
+
+
+def fields_of(name):
+    """The fields of a record of the statement on joined strings, each with its type."""
+    body = re.search(rf"^  pub record {name} : Type 0 where\n((?:    .*\n)*)", read(JOINING), re.M)[1]
+    return re.findall(r"^    pub ([\w-]+) : (.*)$", body, re.M)
+
+
+@test("docs/TRUST.md quotes the statement on joined strings, and include/station.h names its parts with the two calls")
+def joining_quoted():
+    trust, bad = read("docs/TRUST.md"), []
+    declared = {name: comment for comment, name in re.findall(r"/\*((?:(?!\*/).)*)\*/\s*\w+ (station_\w+)\(", read("include/station.h"), re.S)}
+    for call, names in (("station_draw_item", ("TwoRuns", "StringsJoined")), ("station_draw_whitespace", ("TwoWidths", "WidthsJoined"))):
+        for name in names:
+            quoted = re.findall(rf"^```\n{name}\n(.*?)^```", trust, re.M | re.S)
+            bad += differences([re.findall(r"^ +([\w-]+) : (.*)$", block, re.M) for block in quoted], [fields_of(name)], f"{name} in TRUST: ")
+            bad += [f"{call}: {field} of {name}" for field, _ in fields_of(name) if not re.search(rf"(?<![\w-]){field}(?![\w-])", declared[call])]
+    return bad
+
+
 @test("docs/TRUST.md names the definitions that must be believed, and they use no others")
 def believed():
     rows = re.findall(r"^\| `(\w+)` \| ([A-Z]\w*(?:, [A-Z]\w*)*) \|$", read("docs/TRUST.md"), re.M)
@@ -713,19 +736,24 @@ def sheet_of(font=SAMPLE, frame=(8, 6), x=0, y=0, text=b"", style=bytes(8), alig
     return head + le(24, 4) + le(24 + 28 * fonts, 4) + le(24 + len(rest), 4) + rest
 
 
+def picture(rows=""):
+    """A frame of 8 by 6 pixels with the rows that a table has; a pixel that is not shown has the grey 77."""
+    frame = bytearray([77]) * 48
+    for r, row in enumerate(re.findall(r"`([^`]*)`", rows)):
+        for c, shown in enumerate(row.split()):
+            frame[8 * r + c] = 77 if shown == "·" else int(shown)
+    return frame
+
+
 @test("marked lines that draw")
 def marked_pictures():
-    bad, untouched = [], 77
+    bad = []
     for text, style, replacement, rows, next_, replaced in table("Worked examples", ["text", "style", "replacement", "rows", "next", "replaced"]):
         b = sheet_of({**SAMPLE, "replacement": int(replacement)}, text=hex_bytes(text), style=hex_bytes(style))
-        frame = bytearray([untouched]) * 48
+        frame = picture()
         reply = model.draw_item(b, frame, 0)
-        wanted = bytearray([untouched]) * 48
-        for r, row in enumerate(re.findall(r"`([^`]*)`", rows)):
-            for c, grey in enumerate(row.split()):
-                wanted[8 * r + c] = untouched if grey == "·" else int(grey)
         bad += differences(reply, (0, *map(integer, re.findall(r"-?\d+", next_)), int(replaced)), f"{text}, {style}: ")
-        bad += differences(frame.hex(" ", 8), wanted.hex(" ", 8), f"{text}, {style}: ")
+        bad += differences(frame.hex(" ", 8), picture(rows).hex(" ", 8), f"{text}, {style}: ")
     return bad
 
 
@@ -760,6 +788,23 @@ def replaced_characters():
             font = {**SAMPLE, "mapping": hex_bytes(mapping), "atlas": atlas}
             reply = model.draw_item(sheet_of(font, text=hex_bytes(text), style=style, x=place[0], y=place[1]), bytearray(48), 0)
             bad += differences((reply[0], reply[3]), (0, int(count)), f"{text} in {mapping}, {style.hex(' ')}, {place}, {atlas.hex(' ')}: ")
+    return bad
+
+
+@test("lines in two runs, and at once")
+def two_runs():
+    bad = []
+    columns = ["first", "second", "cell", "spacing", "style", "in two runs", "next", "at once", "next"]
+    for first, second, cell, spacing, style, runs, behind, whole, after in table("Worked examples", columns):
+        first, second, small = hex_bytes(first), hex_bytes(second), (*map(int, cell.split(", ")), int(spacing), *SAMPLE["small"][3:])
+        b = bytearray(sheet_of({**SAMPLE, "small": small}, style=hex_bytes(style), slot=2))
+        for texts, rows, position in (((first, second), runs, behind), ((first + second,), whole, after)):
+            frame, sheet, reply = picture(), bytearray(b), (0, 0, 0, 0)
+            for text in texts:
+                bad += differences((model.set_place(sheet, None, 0, *reply[1:3])[0], model.set_text(sheet, None, 0, text)[0]), (0, 0))
+                reply = model.draw_item(sheet, frame, 0)
+            bad += differences(reply[:3], (0, *map(integer, re.findall(r"-?\d+", position))), f"{texts}: ")
+            bad += differences(frame.hex(" ", 8), picture(rows).hex(" ", 8), f"{texts}: ")
     return bad
 
 
@@ -1021,6 +1066,14 @@ def edit_list():
     found += [f"drawing {model.draw(fresh, own := bytearray(pixels))[0]}", "sheets same" if patched == fresh else "sheets differ"]
     found += ["frames same" if frame == own else "frames differ", f"sheet {checksum(patched)}", f"frame {checksum(frame)}"]
     return [f"{f}, and not {w}" for f, w in zip(found, wanted.split("\n")[:-1], strict=True) if f != w]
+
+
+@test("the model on some of the stored lines in two runs and whitespace in two widths")
+def runs_and_widths():
+    data, wanted = stored("joined_runs")
+    cases, lines = list(joined_runs.stored_cases(data)), wanted.split("\n")[:-1]
+    bad = differences(len(lines), len(cases), "lines: ")
+    return bad + [d for k in range(len(cases) - 1, 0, -23) for d in differences(lines[k], joined_runs.tried(*cases[k]), f"case {k}: ")]
 
 
 def answer(kind, lent, a, data):
