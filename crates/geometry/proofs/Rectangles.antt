@@ -4,10 +4,10 @@ use native.Mathlib.Omega.{arith}
 use mathlib.Core.Path.{_≡_, refl, sym, _∙_}
 use mathlib.Core.Bool.{Bool, true, false, cond, true≢false, and-eq-true-iff}
 use mathlib.Mathlib.Data.Bool.Basic.{or-eq-false-eq-eq-false-and-eq-false}
-use mathlib.Core.List.{List, [], _∷_}
-use mathlib.Core.Logic.{_⊎_, inl, inr}
-use lib.Dec.{eqb}
-use borrow.Author.Tests.{leb-true, ltb-true, le-leb, lt-ltb, ne-eqb, eqb-false}
+use mathlib.Core.List.{List, [], _∷_, map, List·Memᴰ, List·Memᴰ·head, List·Memᴰ·tail, List·Memᴰ·not-nil, List·Memᴰ·cases-cons}
+use mathlib.Core.Logic.{_⊎_, inl, inr, ⊎-elim}
+use lib.Dec.{eqb, leb}
+use borrow.Author.Tests.{leb-true, leb-false, ltb-true, le-leb, lt-ltb, ne-eqb, eqb-false}
 use Rattle.geometry.specs.declared.Rectangle.{Rectangle}
 use Rattle.geometry.specs.Canvas.{EndsFit}
 use Rattle.geometry.specs.Rectangle.{covers, isEmpty, envelope, join, joins, intersection}
@@ -64,6 +64,14 @@ not-empty a h =
     let n = or-eq-false-eq-eq-false-and-eq-false (eqb (a .width) 0) (eqb (a .height) 0) .0 h in
     omega (arith, eqb-false (a .width) 0 (n .0), eqb-false (a .height) 0 (n .1))
 
+-- empty, if it cannot be otherwise
+pub empty-if : (a : Rectangle) → (isEmpty a ≡ false → ⊥) → isEmpty a ≡ true
+empty-if a h = go (isEmpty a) refl
+  where
+    go : (t : Bool) → isEmpty a ≡ t → t ≡ true
+    go true e = refl
+    go false e = absurd (h e)
+
 -- a place in either of two rectangles is in their join
 module _ (c r : ℕ) where
   pub join-left : (a b : Rectangle) → In a c r → In (join a b) c r
@@ -86,6 +94,15 @@ module _ (c r : ℕ) where
   unfolding joins
   joins-first a [] h = h
   joins-first a (b ∷ bs) h = joins-first (join a b) bs (join-left a b h)
+
+  -- and each of a list is in the join of them all
+  pub joins-each : {A : Type 0} (f : A → Rectangle) (a : Rectangle) (xs : List A) (x : A) → List·Memᴰ x xs → In (f x) c r → In (joins a (map f xs)) c r
+  unfolding joins
+  joins-each f a [] x m h = absurd (List·Memᴰ·not-nil m)
+  joins-each f a (y ∷ ys) x m h = ⊎-elim
+      (λ e. joins-first (join a (f y)) (map f ys) (join-right a (f y) (rw e at h)))
+      (λ q. joins-each f (join a (f y)) ys x q h)
+      (List·Memᴰ·cases-cons m)
 
   pub intersection-in : (a b : Rectangle) → In a c r → In b c r → In (intersection a b) c r
   unfolding intersection
@@ -153,3 +170,65 @@ module _ (a b : Rectangle) (fa : EndsFit a) (fb : EndsFit b) where
 
   pub ends-fit-join : EndsFit (join a b)
   ends-fit-join = join-cases EndsFit a b fa fb ends-fit-envelope
+
+-- ---- the join is the smallest, and its first and last rows are those of what it joins
+
+-- a rectangle that another holds
+abbrev pub Within : Rectangle → Rectangle → Type 0
+Within a z = (c r : ℕ) → In a c r → In z c r
+
+module _ (z : Rectangle) where
+  -- a rectangle that holds both holds their join
+  pub join-within : (a b : Rectangle) → Within a z → Within b z → Within (join a b) z
+  unfolding join envelope
+  join-within a b p q = go (isEmpty b) refl (isEmpty a) refl
+    where
+      go : (t : Bool) → isEmpty b ≡ t → (u : Bool) → isEmpty a ≡ u → Within (cond t a (cond u b (envelope a b))) z
+      go true eb u ea = p
+      go false eb true ea = q
+      go false eb false ea = λ c r i.
+          let ha = not-empty a ea in
+          let hb = not-empty b eb in
+          omega (arith, p (a .left) (a .top) (omega arith), p (a .left + a .width - 1) (a .top + a .height - 1) (omega arith), q (b .left) (b .top) (omega arith), q (b .left + b .width - 1) (b .top + b .height - 1) (omega arith))
+
+  pub joins-within : {A : Type 0} (f : A → Rectangle) (a : Rectangle) (xs : List A) → Within a z → ((x : A) → List·Memᴰ x xs → Within (f x) z) → Within (joins a (map f xs)) z
+  unfolding joins
+  joins-within f a [] p q = p
+  joins-within f a (x ∷ xs) p q = joins-within f (join a (f x)) xs (join-within a (f x) p (q x (List·Memᴰ·head refl))) (λ y m. q y (List·Memᴰ·tail m))
+
+-- what lies in one rectangle shares nothing with another that the first shares nothing with
+pub apart-within : (a z clip : Rectangle) → Within a z → ((c r : ℕ) → In z c r → In clip c r → ⊥) → isEmpty (intersection a clip) ≡ true
+unfolding intersection
+apart-within a z clip h o = empty-if (intersection a clip) (λ e.
+    let i : In (intersection a clip) (max (a .left) (clip .left)) (max (a .top) (clip .top)) = omega (arith, not-empty (intersection a clip) e) in
+    let p = intersection-both _ _ a clip i in
+    o _ _ (h _ _ (p .0)) (p .1))
+
+-- what holds of the first row and of the last
+abbrev pub Ends : (ℕ → Type 0) → Rectangle → Type 0
+Ends P a = isEmpty a ≡ false → P (a .top) × P (a .top + a .height - 1)
+
+ordered : (x y : ℕ) → ((min x y ≡ x) × (max x y ≡ y)) ⊎ ((min x y ≡ y) × (max x y ≡ x))
+ordered x y = go (leb x y) refl
+  where
+    go : (t : Bool) → leb x y ≡ t → ((min x y ≡ x) × (max x y ≡ y)) ⊎ ((min x y ≡ y) × (max x y ≡ x))
+    go true e = inl (omega (arith, leb-true x y e))
+    go false e = inr (omega (arith, leb-false x y e))
+
+module _ (P : ℕ → Type 0) where
+  least-of : (x y : ℕ) → P x → P y → P (min x y)
+  least-of x y p q = ⊎-elim (λ o. rw (o .0) p) (λ o. rw (o .0) q) (ordered x y)
+
+  last-of : (x y : ℕ) → P (x - 1) → P (y - 1) → P (max x y - 1)
+  last-of x y p q = ⊎-elim (λ o. rw (o .1) q) (λ o. rw (o .1) p) (ordered x y)
+
+  pub join-ends : (a b : Rectangle) → Ends P a → Ends P b → Ends P (join a b)
+  unfolding join envelope
+  join-ends a b p q = go (isEmpty b) refl (isEmpty a) refl
+    where
+      go : (t : Bool) → isEmpty b ≡ t → (u : Bool) → isEmpty a ≡ u → Ends P (cond t a (cond u b (envelope a b)))
+      go true eb u ea = p
+      go false eb true ea = q
+      go false eb false ea = λ e.
+          let foot : min (a .top) (b .top) + (max (a .top + a .height) (b .top + b .height) - min (a .top) (b .top)) ≡ max (a .top + a .height) (b .top + b .height) = omega arith in
+          (least-of (a .top) (b .top) (p ea .0) (q eb .0), rw foot (last-of (a .top + a .height) (b .top + b .height) (p ea .1) (q eb .1)))
