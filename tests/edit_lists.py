@@ -161,10 +161,21 @@ def page(sheet):
 
 # the ink boxes and the damage rectangle, as corners
 
+def ink_rows(i):
+    """The rows below a line's top edge that count."""
+    style = i['style']
+    parts = (((0, i['ch']), style[0] or style[2]),
+             (i['strike'], decoration_grey(style[6], style[7], style) is not None),
+             (i['under'], decoration_grey(style[4], style[5], style) is not None))
+    return [offset + r for (offset, height), counts in parts if counts for r in range(height)]
+
+
 def ink(i):
-    height = max(i['ch'], sum(i['strike']), sum(i['under']))
-    boxes = [(x, top, x + advance(i, len(characters)), top + height) for x, top, characters in lines(i)]
-    return join([b for b in boxes if b[0] < b[2] and b[1] < b[3]])
+    rows = ink_rows(i)
+    if not rows:
+        return None
+    boxes = [(x, top + min(rows), x + advance(i, len(characters)), top + max(rows) + 1) for x, top, characters in lines(i)]
+    return join([b for b in boxes if b[0] < b[2]])
 
 
 def join(boxes):
@@ -236,6 +247,8 @@ def checksum(data):
 
 SAMPLE = font(b'\x90\x60', b'AB', 1, 4, 2, 2, 1, 1, (0, 1), (3, 1))
 LARGE = font(bytes((37 * k + 13) % 256 for k in range(3 * 14)), b'\0az\xc3\xa9\0\xe2\x82\xac\xe2\x82\xae', 28, 23, 4, 7, 2, 5, (3, 2), (6, 3))
+# cells and a strikethrough without rows, and an underline far below
+FLAT = font(b'', b'', 0, 0, 3, 0, 1, 4, (14, 0), (9, 2))
 ITEMS = [
     item(3, 2, b'AB\nBA\r\nABZ', 16, 0, (1, 9, 1, 5, 2, 7, 0, 0), LEFT, TOP, 0, 5),
     item(30, 12, b'abc\r\nd\xc3\xa9f', 24, 1, (1, 20, 0, 99, 1, 3, 2, 60), CENTRE, ALPHABETIC, 1, 150),
@@ -244,12 +257,13 @@ ITEMS = [
     item(20, 22, b'\r\n\nAB', 12, 0, (0, 0, 0, 0, 2, 66, 2, 99), CENTRE, MIDDLE, 1, 250),
     item(400, 400, b'away', 8, 1, (1, 1, 1, 2, 2, 3, 2, 4), RIGHT, TOP, 0, 0),
     item(12, 9, b'', 256, 1, (1, 111, 1, 140, 1, 0, 1, 0), RIGHT, BOTTOM, 0, 1000),
+    item(10, 20, b'lo\nw', 8, 2, (1, 50, 1, 60, 2, 70, 2, 80), CENTRE, TOP, 0, 4),
 ]
 NEITHER = bytes((0, 9, 0, 8, 2, 15, 1, 7))
 BOTH = bytes((1, 240, 1, 16, 2, 90, 2, 180))
 LIST = [
     ('text', 0, b'BA'), ('text', 0, b'BA'), ('place', 0, (28, 10)), ('style', 0, NEITHER), ('text', 0, b'A\r\nB\r\r\nZ'),
-    ('text', 7, b'A'), ('place', 7, (0, 0)), ('style', 7, BOTH), ('text', 4294967295, b''), ('text', 64, b'\xff' * 300),
+    ('text', 8, b'A'), ('place', 8, (0, 0)), ('style', 8, BOTH), ('text', 4294967295, b''), ('text', 64, b'\xff' * 300),
     ('text', 0, b'A' * 17), ('text', 0, b'A' * 16), ('text', 0, b'\xff' * 17), ('text', 0, b'\xed\xa0\x80'), ('text', 1, b'ab\xc3'),
     ('text', 1, b'\xc0\x80'), ('text', 1, b'\xf4\x90\x80\x80'), ('text', 1, b'\xf4\x8f\xbf\xbf\xc3\xa9z'), ('text', 6, b'x' * 257),
     ('text', 6, b'xyz\n\nuvw\n'), ('place', 6, (40, -990)), ('place', 6, (60, 42)),
@@ -264,11 +278,20 @@ LIST = [
     ('text', 4, b'\r\r\nA\n\nB'), ('place', 5, (60, 41)), ('place', 5, (-1, -1)), ('place', 5, (2, 40)), ('style', 5, NEITHER),
     ('text', 5, b'qrstuvwx'), ('text', 5, b'qrstuvwxy'), ('style', 6, bytes((1, 250, 0, 0, 2, 1, 2, 2))), ('place', 6, (33, 8)),
     ('text', 6, b'm\nn'), ('text', 0, b'\0A\0'), ('place', 0, (0, 0)), ('style', 0, BOTH),
+    # no decoration, above the font's underline; the underline alone; strikethrough and underline with a row between them
+    ('style', 0, bytes((1, 9, 0, 8, 0, 7, 0, 6))), ('text', 0, b'AB'), ('style', 0, bytes((0, 9, 0, 8, 2, 7, 0, 6))), ('text', 0, b'BAB'),
+    ('style', 2, bytes((0, 9, 0, 8, 2, 70, 2, 60))), ('text', 2, b'apart'),
+    # an underline in the text colour without a text grey, with a background; nothing, twice, and then all
+    ('style', 2, bytes((0, 9, 1, 80, 1, 7, 0, 6))), ('place', 2, (50, 25)), ('style', 2, bytes((0, 1, 0, 2, 0, 3, 0, 4))),
+    ('style', 2, bytes((0, 5, 0, 6, 1, 7, 1, 8))), ('text', 2, b'hidden'), ('place', 2, (40, 20)), ('style', 2, BOTH),
+    # no rows in the cells; the underline far below, and a strikethrough without rows beside it and alone
+    ('text', 7, b'low'), ('style', 7, bytes((0, 9, 0, 8, 2, 71, 2, 81))), ('place', 7, (12, 22)), ('style', 7, bytes((1, 9, 1, 8, 0, 72, 2, 82))),
+    ('text', 7, b'\nlow'),
 ]
 
 
 def main():
-    sheet = build([SAMPLE, LARGE], ITEMS)
+    sheet = build([SAMPLE, LARGE, FLAT], ITEMS)
     stdin = struct.pack('<II', len(sheet), WIDTH * HEIGHT) + sheet + b''.join(stored(*e) for e in LIST)
     out = ['drawing 0']
     for k, e in enumerate(LIST):

@@ -142,12 +142,18 @@ def top_edge(font, baseline, y):
     return y - (0, max(font.ch - 1, 0), max(font.ch - 1, 0) // 2, font.baseline)[baseline]
 
 
-def draw_decorations(canvas, font, style, advance, x, top):
+def decorations(font, style):
+    """Strikethrough, then underline, each if its colour resolves: its offset, height and grey."""
     for mode, own, (offset, height) in ((style.strikethrough, style.strikethrough_grey, font.strikethrough),
                                         (style.underline, style.underline_grey, font.underline)):
         grey = (None, style.text, own)[mode]
-        if advance > 0 and grey is not None:
-            fill(canvas, (x, top + offset, advance, height), grey)
+        if grey is not None:
+            yield offset, height, grey
+
+
+def draw_decorations(canvas, font, style, advance, x, top):
+    for offset, height, grey in decorations(font, style):
+        fill(canvas, (x, top + offset, advance, height), grey)
 
 
 def advance_of(font, style, n):
@@ -270,9 +276,11 @@ def page(b):
 
 
 def ink_box(item):
-    font = item.font
-    height = max(font.ch, sum(font.strikethrough), sum(font.underline))
-    return join([(x, top, advance_of(font, item.style, len(line)), height) for line, x, y, top in lines_of(item)])
+    font, style = item.font, item.style
+    parts = [(offset, height) for offset, height, _ in decorations(font, style)]
+    if style.text is not None or style.background is not None:
+        parts.append((0, font.ch))
+    return join([(x, top + offset, advance_of(font, style, len(line)), height) for line, x, y, top in lines_of(item) for offset, height in parts])
 
 
 def edited(b, frame, n, changes):

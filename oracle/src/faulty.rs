@@ -6,7 +6,7 @@ use crate::check::check;
 use crate::edits::{damage, Rect};
 use crate::fields::{Font, Header, Item};
 use crate::model::{FontModel, ItemModel, SheetModel};
-use crate::plain::Plain;
+use crate::plain::{ink_over, ink_rows, Plain};
 use crate::reply::{Area, Drawn, Edit, Glyph, Number, Position, Station, Step};
 
 macro_rules! faults {
@@ -29,6 +29,11 @@ faults! {
     NothingRepainted,
     OnlyTheItemRepainted,
     MeasuredBoxAsInk,
+    CellAlwaysInInk,
+    UnderlineInInkByItsMode,
+    StrikethroughNotInInk,
+    InkFromTheTopEdge,
+    InkToPartsWithoutRows,
     DamageNotCut,
     DamageCutBeforeJoining,
     ReturnDroppedBeforeMeasuring,
@@ -246,10 +251,36 @@ impl Faulty {
         counted.len() as u32
     }
 
+    // The ink box that is taken by mistake.
+    fn ink(&self, sheet: &[u8], number: usize) -> Option<Rect> {
+        let item = Item::read(sheet, number);
+        let font = Font::read(sheet, item.font as usize);
+        let mut rows = ink_rows(sheet, number);
+        match self.0 {
+            Fault::CellAlwaysInInk => rows[0] = Some((0, font.character_height)),
+            Fault::UnderlineInInkByItsMode if item.underline_mode != 0 => {
+                rows[2] = Some((font.underline_offset, font.underline_height));
+            }
+            Fault::StrikethroughNotInInk => rows[1] = None,
+            Fault::InkFromTheTopEdge => {
+                for (offset, height) in rows.iter_mut().flatten().filter(|part| part.1 > 0) {
+                    (*offset, *height) = (0, *offset + *height);
+                }
+            }
+            Fault::InkToPartsWithoutRows => {
+                let first = rows.iter().flatten().map(|part| part.0).min();
+                let end = rows.iter().flatten().map(|part| part.0 + part.1).max();
+                rows[0] = first.zip(end).map(|(first, end)| (first, end - first));
+            }
+            _ => {}
+        }
+        ink_over(sheet, number, &rows)
+    }
+
     // The rectangle that is reported by mistake, from the sheets before and after an edit.
-    fn rectangle(&self, before: &[u8], after: &[u8], item: usize, good: Area) -> Area {
+    fn rectangle(&self, before: &[u8], after: &[u8], item: usize) -> Area {
         let header = Header::read(before);
-        let ink = |sheet: &[u8]| Plain.ink_box(sheet, item);
+        let ink = |sheet: &[u8]| self.ink(sheet, item);
         let cut = |rect: Option<Rect>| damage(rect, None, &header).unless_empty();
         let rect = match self.0 {
             Fault::MeasuredBoxAsInk => {
@@ -258,7 +289,7 @@ impl Faulty {
             }
             Fault::DamageNotCut => crate::edits::join(ink(before), ink(after)).unwrap_or_default(),
             Fault::DamageCutBeforeJoining => damage(cut(ink(before)), cut(ink(after)), &header),
-            _ => return good,
+            _ => damage(ink(before), ink(after), &header),
         };
         Area {
             code: 0,
@@ -305,7 +336,7 @@ impl Faulty {
             }
             _ => {}
         }
-        self.rectangle(&before, sheet, item as usize, area)
+        self.rectangle(&before, sheet, item as usize)
     }
 
     // A later condition of the call that holds too.

@@ -282,6 +282,40 @@ fn greys<'a>(sheet: &[u8], greys: &'a mut [u8]) -> Greys<'a> {
     }
 }
 
+/// "The ink box shall count the ch rows only if a text or background grey is set, and a
+/// decoration's rows only if its colour resolves." The offset below a line's top edge and the
+/// height of cell, strikethrough and underline, each only then.
+pub fn ink_rows(sheet: &[u8], item: usize) -> [Option<(u32, u32)>; 3] {
+    let placed = Placed::new(sheet, item);
+    let (item, font) = (&placed.item, &placed.font);
+    let grey = placed.text_grey().or(placed.background());
+    let strikethrough = placed.decoration(item.strikethrough_mode, item.strikethrough_grey);
+    let underline = placed.decoration(item.underline_mode, item.underline_grey);
+    [
+        grey.map(|_| (0, font.character_height)),
+        strikethrough.map(|_| (font.strikethrough_offset, font.strikethrough_height)),
+        underline.map(|_| (font.underline_offset, font.underline_height)),
+    ]
+}
+
+/// "It is the smallest rectangle over these rows and the advance; none if no row counts." Joined
+/// over an item's lines.
+pub fn ink_over(sheet: &[u8], item: usize, rows: &[Option<(u32, u32)>]) -> Option<Rect> {
+    let lines = Placed::new(sheet, item).lines(sheet);
+    let boxes = lines.iter().flat_map(|line| {
+        rows.iter().flatten().map(|(offset, height)| {
+            let part = Rect {
+                left: line.x,
+                top: line.top + *offset as i32,
+                width: line.advance as u32,
+                height: *height,
+            };
+            part.unless_empty()
+        })
+    });
+    boxes.fold(None, join)
+}
+
 impl Painter for Plain {
     // "`Text::draw` returns the last line's next position."
     fn draw_item(&self, sheet: &[u8], frame: &mut [u8], item: usize) -> (i32, i32) {
@@ -337,24 +371,8 @@ impl Painter for Plain {
         })
     }
 
-    // "A line's ink box starts at its x and top edge, is its advance wide, and max(ch, each
-    // decoration's offset + height) high."
     fn ink_box(&self, sheet: &[u8], item: usize) -> Option<Rect> {
-        let placed = Placed::new(sheet, item);
-        let font = &placed.font;
-        let strikethrough = font.strikethrough_offset + font.strikethrough_height;
-        let underline = font.underline_offset + font.underline_height;
-        let lines = placed.lines(sheet);
-        let boxes = lines.iter().map(|line| {
-            let ink = Rect {
-                left: line.x,
-                top: line.top,
-                width: line.advance as u32,
-                height: font.character_height.max(strikethrough).max(underline),
-            };
-            ink.unless_empty()
-        });
-        boxes.fold(None, join)
+        ink_over(sheet, item, &ink_rows(sheet, item))
     }
 
     fn index(&self, sheet: &[u8], font: usize, character: u32) -> u32 {

@@ -16,7 +16,8 @@ use embedded_graphics::{
     },
     pixelcolor::Gray8,
     text::{
-        renderer::TextRenderer, Alignment, Baseline, LineHeight, Text, TextStyle, TextStyleBuilder,
+        renderer::TextRenderer, Alignment, Baseline, DecorationColor, LineHeight, Text, TextStyle,
+        TextStyleBuilder,
     },
     Drawable,
 };
@@ -176,6 +177,27 @@ impl Drawing for Page<'_> {
     }
 }
 
+/// The rows below a line's top edge that count as ink, told by the style's colours: the first, and
+/// the one after the last.
+fn ink_rows(style: &MonoTextStyle<Gray8>) -> Option<(u32, u32)> {
+    let font = style.font;
+    let has_text = style.text_color.is_some();
+    let resolves =
+        |color: DecorationColor<Gray8>| color.is_custom() || (color.is_text_color() && has_text);
+    let cell = DecorationDimensions::new(0, font.character_size.height);
+    let parts = [
+        (has_text || style.background_color.is_some(), cell),
+        (resolves(style.strikethrough_color), font.strikethrough),
+        (resolves(style.underline_color), font.underline),
+    ];
+    let counting = parts
+        .iter()
+        .filter(|(counts, part)| *counts && part.height > 0);
+    counting
+        .map(|(_, part)| (part.offset, part.offset + part.height))
+        .reduce(|one, other| (one.0.min(other.0), one.1.max(other.1)))
+}
+
 /// The crate's own drawing, on one of the two kinds of frame.
 #[derive(Debug, Clone, Copy)]
 pub struct Crate {
@@ -235,12 +257,7 @@ impl Painter for Crate {
         with_text(sheet, item, |text| {
             let style = &text.character_style;
             let baseline = text.text_style.baseline;
-            let font = style.font;
-            let height = font
-                .character_size
-                .height
-                .max(font.strikethrough.offset + font.strikethrough.height)
-                .max(font.underline.offset + font.underline.height);
+            let (first, end) = ink_rows(style)?;
             let line_height = text.text_style.line_height.to_absolute(style.line_height());
             let mut boxes = None;
             for (number, line) in text.text.split('\n').enumerate() {
@@ -258,9 +275,9 @@ impl Painter for Crate {
                 let top = style.measure_string(line, position, baseline).bounding_box;
                 let line_box = Rect {
                     left: start,
-                    top: top.top_left.y,
+                    top: top.top_left.y + first as i32,
                     width: (next.x - start) as u32,
-                    height,
+                    height: end - first,
                 };
                 boxes = join(boxes, line_box.unless_empty());
             }

@@ -81,6 +81,11 @@ module _ (b : List ℕ) (n : ℕ) where
     unfolding itemInk
     item-ink a e = rw (item-is, r .font) at e
 
+    pub item-apart : (r : Bool) (clip : Rectangle)
+        → (r ≡ true → isEmpty (intersection (inkBox (i .font) (textOf text (i .position .x) (i .position .y) (i .«character_style») (i .«text_style»))) clip) ≡ true) → r ≡ true
+        → isEmpty (intersection (itemInk b n) clip) ≡ true
+    item-apart r clip h e = rw (← item-ink _ refl) (h e)
+
     pub item-box : (a : Rectangle) → a ≡ boundingBox (i .font) (textOf text (i .position .x) (i .position .y) (i .«character_style») (i .«text_style»)) → a ≡ boundingBox (itemFont b n .mono) (item b n)
     item-box a e = rw (item-is, r .font) at e
 
@@ -110,21 +115,11 @@ module _ (b : List ℕ) (n k : ℕ) (f : MonoFont) (p : Point) (t : TextStyle) (
   unfolding layout
   layout-read = item-read b n k f p (monoTextStyle b (itemAt b n)) t g ek ef limits ep px py refl et
 
-  pub layout-limits : (text : List ℕ) → text ≡ textBytes b (itemAt b n) → TextLimits (length text) (p .x) (p .y) (t .«line_height»)
-  unfolding layout
-  layout-limits text ew = item-limits b n layout text layout-read ew
-
   -- a text that starts below a clip has no ink in it
   pub layout-below : (r : Bool) (clip : Rectangle) → r ≡ isBelow clip (topEdge f (t .baseline) (p .y)) → r ≡ true → isEmpty (intersection (itemInk b n) clip) ≡ true
   unfolding layout
   layout-below r clip e holds =
       rw (← item-ink b n layout (textBytes b (itemAt b n)) layout-read refl _ refl) (apart-above f (textBytes b (itemAt b n)) (p .x) (p .y) t (monoTextStyle b (itemAt b n)) clip (sym e ∙ holds))
-
-  -- what holds in any style holds in the item's
-  pub layout-apart : (text : List ℕ) (r : Bool) (clip : Rectangle) → text ≡ textBytes b (itemAt b n) → (r ≡ true → (s : MonoTextStyle) → isEmpty (intersection (inkBox f (textOf text (p .x) (p .y) s t)) clip) ≡ true) → r ≡ true
-      → isEmpty (intersection (itemInk b n) clip) ≡ true
-  unfolding layout
-  layout-apart text r clip ew h e = rw (← item-ink b n layout text layout-read ew _ refl) (h e (monoTextStyle b (itemAt b n)))
 
 -- ---- the frame as it is read
 

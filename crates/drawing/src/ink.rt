@@ -36,17 +36,18 @@ fn starts_below(sheet: &[u8], clip: Rectangle, n: u32) -> bool
     text::starts_below(clip, font, text_style, p.y)
 }
 
-// Whether an item's place, heights and bytes tell that the clip does not meet its ink box; the other fields are not read.
+// Whether an item's place, heights, style and bytes tell that the clip does not meet its ink box; its characters are not read.
 fn is_apart(sheet: &[u8], clip: Rectangle, n: u32) -> bool
     requires { ⌜ ItemListed (now sheet) n ⌝ }
     ensures { λ r. ⌜ (r ≡ true → isEmpty (intersection (itemInk (now (sheet .entry)) n) clip) ≡ true) ⌝ }
 {
-    let font_number = records::font_number(sheet, n);
-    let font = records::font_at(sheet, font_number);
-    let p = records::position(sheet, n);
-    let text_style = records::text_style(sheet, n);
+    let item = item_at(sheet, n);
     let text = records::text_bytes(sheet, n);
-    text::is_apart(text, font, text_style, p.x, p.y, clip)
+    let font = item.font;
+    let style = item.character_style;
+    let text_style = item.text_style;
+    let p = item.position;
+    text::is_apart(text, font, style, text_style, p.x, p.y, clip)
 }
 
 // Whether the clip does not meet an item's ink box; "no" may be said of one that it does not meet. The box is found only where the item's rows

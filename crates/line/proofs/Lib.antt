@@ -1,5 +1,6 @@
 pub mod Advances
 pub mod Ink
+pub mod Tight
 pub mod Joining
 pub mod Colors
 pub mod Painting

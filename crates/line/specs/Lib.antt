@@ -1,3 +1,4 @@
 pub mod Line
 pub mod Clip
+pub mod Ink
 pub mod Limits

@@ -1,14 +1,14 @@
--- One line of text: its glyphs and gaps, its decorations, its advance, its measured box and its ink box (docs/SHEET.md, One line).
+-- One line of text: its glyphs and gaps, its decorations, its advance, its measured box and its ink box (docs/SHEET.md, One line; Ink).
 -- Assumes nothing.
 -- To be believed: it says what a sheet means.
-use Prim.Native.Nat.{ℕ, zero, suc, _+_, _-_, _*_, _/_, max}
+use Prim.Native.Nat.{ℕ, zero, suc, _+_, _-_, _*_, _/_}
 use mathlib.Core.Bool.{Bool, true, false, cond, _||_}
 use mathlib.Core.List.{List, [], _∷_, map}
 use lib.ListN.{length}
 use Rattle.geometry.specs.declared.Rectangle.{Rectangle}
 use Rattle.geometry.specs.declared.OptionalGrey.{OptionalGrey}
 use Rattle.geometry.specs.declared.OptionalGrey.the-variants.{Unset, Set}
-use Rattle.geometry.specs.Rectangle.{rectangle}
+use Rattle.geometry.specs.Rectangle.{rectangle, join}
 use Rattle.geometry.specs.Layer.{Layer, transparent, over, filled}
 use Rattle.characters.specs.Utf8.{chars}
 use Rattle.mapping.specs.Mapping
@@ -153,12 +153,30 @@ measuredHeight m s = cond (isNone (s .«underline_color»)) (characterHeight m) 
 unfoldable pub measuredBox : MonoFont → MonoTextStyle → ℕ → ℕ → ℕ → Rectangle
 measuredBox m s n x top = rectangle x top (measuredWidth m n) (measuredHeight m s)
 
--- ---- the ink box of a line (docs/SHEET.md, Drawing and edits)
+-- ---- the ink box of a line (docs/SHEET.md, Ink)
 
--- "max(ch, each decoration's offset + height)"
-unfoldable pub inkHeight : MonoFont → ℕ
-inkHeight m = max (characterHeight m) (max (m .strikethrough .offset + m .strikethrough .height) (m .underline .offset + m .underline .height))
+-- rows below a line's top edge, as a column of pixels: those of a part that counts, else none
+abbrev pub rowsIf : Bool → ℕ → ℕ → Rectangle
+rowsIf counts offset height = rectangle 0 offset 1 (cond counts height 0)
 
--- "starts at its x and top edge, is its advance wide"; n characters
+-- "the ch rows only if a text or background grey is set"
+abbrev pub characterRows : MonoFont → MonoTextStyle → Rectangle
+characterRows m s = rowsIf (isPainted s) 0 (characterHeight m)
+
+-- "a decoration's rows only if its colour resolves"
+abbrev pub decorationRows : DecorationDimensions → OptionalGrey → Rectangle
+decorationRows d color = rowsIf (isSet color) (d .offset) (d .height)
+
+abbrev pub strikethroughRows : MonoFont → MonoTextStyle → Rectangle
+strikethroughRows m s = decorationRows (m .strikethrough) (toColor s (s .«strikethrough_color»))
+
+abbrev pub underlineRows : MonoFont → MonoTextStyle → Rectangle
+underlineRows m s = decorationRows (m .underline) (toColor s (s .«underline_color»))
+
+-- "the smallest rectangle over these rows": the rows between two of them too
+unfoldable pub inkRows : MonoFont → MonoTextStyle → Rectangle
+inkRows m s = join (join (characterRows m s) (strikethroughRows m s)) (underlineRows m s)
+
+-- "and the advance; none if no row counts": of n characters from x on
 unfoldable pub inkBox : MonoFont → MonoTextStyle → ℕ → ℕ → ℕ → Rectangle
-inkBox m s n x top = rectangle x top (advance m s n) (inkHeight m)
+inkBox m s n x top = rectangle x (top + inkRows m s .top) (advance m s n) (inkRows m s .height)

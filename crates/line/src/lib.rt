@@ -14,7 +14,7 @@ use mapping::Start;
 pub use measuring::advance;
 pub use measuring::baseline_offset;
 pub use measuring::ink_box;
-pub use measuring::ink_height;
+pub use measuring::ink_rows;
 use measuring::is_painted;
 pub use measuring::measure_string;
 pub use measuring::measured_width;

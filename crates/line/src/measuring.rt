@@ -5,14 +5,13 @@ use super::MonoFont;
 use super::MonoTextStyle;
 use geometry::OptionalGrey;
 use geometry::Rectangle;
-use geometry::numbers::greatest;
 use geometry::numbers::minus;
 ghost use mathlib.Core.Path.{_≡_};
 ghost use Prim.Native.Nat.{_+_, _*_};
 ghost use lib.ListN.{length};
 ghost use Rattle.characters.specs.Utf8.{chars};
-ghost use Rattle.line.specs.Line.{characterWidth, spacing, baselineOffset, isSet, isPainted, advance, measuredWidth, measuredHeight, measuredBox, inkHeight, inkBox};
-ghost use Rattle.line.specs.Limits.{FontLimits, LengthLimit};
+ghost use Rattle.line.specs.Line.{characterWidth, spacing, baselineOffset, isSet, isPainted, toColor, advance, measuredWidth, measuredHeight, measuredBox, rowsIf, inkRows, inkBox};
+ghost use Rattle.line.specs.Limits.{FontLimits, LengthLimit, TopLimit};
 
 // How far the top edge of a line is above its y.
 pub fn baseline_offset(font: MonoFont, baseline: Baseline) -> u32
@@ -116,29 +115,73 @@ pub fn measure_string(
     }
 }
 
-// How high the ink box of a line is.
-pub fn ink_height(font: MonoFont) -> u32
-    requires { ⌜ FontLimits font ⌝ }
-    ensures { λ r. ⌜ r ≡ inkHeight font ⌝ }
+// Whether a decoration's colour resolves to a grey.
+fn resolves(style: MonoTextStyle, color: DecorationColor) -> bool
+    ensures { λ r. ⌜ r ≡ isSet (toColor style color) ⌝ }
 {
-    let strikethrough = font.strikethrough.offset + font.strikethrough.height;
-    let underline = font.underline.offset + font.underline.height;
-    let decorations = greatest(strikethrough, underline);
-    greatest(font.atlas.cell_size.height, decorations)
+    let grey = style.text_color;
+    match color {
+        DecorationColor::None => false,
+        DecorationColor::TextColor => is_set(grey),
+        DecorationColor::Custom(_) => true,
+    }
+}
+
+// The rows of a part of a line, `height` of them from `offset` below its top edge on, as a column of pixels; none if the part does not count.
+fn rows_if(counts: bool, offset: u32, height: u32) -> Rectangle
+    ensures { λ r. ⌜ r ≡ rowsIf counts offset height ⌝ }
+{
+    if counts {
+        return Rectangle {
+            left: 0,
+            top: offset,
+            width: 1,
+            height,
+        };
+    }
+    Rectangle {
+        left: 0,
+        top: offset,
+        width: 1,
+        height: 0,
+    }
+}
+
+// The rows of a line that count as ink, below its top edge, and those between them.
+pub fn ink_rows(font: MonoFont, style: MonoTextStyle) -> Rectangle
+    requires { ⌜ FontLimits font ⌝ }
+    ensures { λ r. ⌜ r ≡ inkRows font style ⌝ }
+{
+    let strikethrough_color = style.strikethrough_color;
+    let underline_color = style.underline_color;
+    let characters = rows_if(is_painted(style), 0, font.atlas.cell_size.height);
+    let strikethrough = rows_if(
+        resolves(style, strikethrough_color),
+        font.strikethrough.offset,
+        font.strikethrough.height,
+    );
+    let underline = rows_if(
+        resolves(style, underline_color),
+        font.underline.offset,
+        font.underline.height,
+    );
+    characters.join(strikethrough).join(underline)
 }
 
 // The ink box of a line with its top edge at `top`.
 pub fn ink_box(text: &[u8], font: MonoFont, style: MonoTextStyle, x: u32, top: u32) -> Rectangle
     requires { ⌜ FontLimits font ⌝ }
     requires { ⌜ LengthLimit (length (now text)) ⌝ }
+    requires { ⌜ TopLimit top ⌝ }
     ensures { λ r. ⌜ r ≡ inkBox font style (length (chars (now (text .entry)))) x top ⌝ }
 {
     let width = advance(text, font, style);
-    let height = ink_height(font);
+    let rows = ink_rows(font, style);
+    let first = top + rows.top;
     Rectangle {
         left: x,
-        top,
+        top: first,
         width,
-        height,
+        height: rows.height,
     }
 }

@@ -18,7 +18,7 @@ use Rattle.characters.specs.Utf8.{chars}
 use Rattle.characters.specs.Lines.{before, lines}
 use Rattle.line.specs.declared.DecorationDimensions.{DecorationDimensions}
 use Rattle.line.specs.declared.MonoFont.{MonoFont}
-use Rattle.line.specs.Line.{characterWidth, spacing, baselineOffset, advance, measuredWidth, measuredHeight, inkHeight}
+use Rattle.line.specs.Line.{characterWidth, spacing, baselineOffset, advance, measuredWidth, measuredHeight, inkRows}
 use Rattle.line.specs.Line
 use Rattle.text.specs.declared.Alignment.{Alignment}
 use Rattle.text.specs.declared.Alignment.the-variants.{Left, Center, Right}
@@ -146,10 +146,9 @@ module _ (m : MonoFont) (t : Text) where
         → map k (map h (placedLines m t)) ≡ map g (Signed.placedLines m (signedText t))
     each-line h k g e = map-square signedLine g h k (placedLines m t) e ∙ ap (map g) lines-exact
 
-    boxes-exact : (width : List ℕ → ℕ) (height : ℕ)
-        → map signedRectangle (map (λ l. rectangle (l .x) (lineTop m t l) (width (l .text)) height) (placedLines m t))
-        ≡ map (λ l. Signed.rectangle (l .x) (Signed.lineTop m (signedText t) l) (width (l .text)) height) (Signed.placedLines m (signedText t))
-    boxes-exact width height = each-line _ signedRectangle _ (λ l q. rw (top-exact l q))
+    -- a row so far below a line's top edge
+    row-exact : (k : ℕ) (l : PlacedLine) → List·Memᴰ l (placedLines m t) → signed (lineTop m t l + k) ≡ Signed.lineTop m (signedText t) (signedLine l) +ℤ pos k
+    row-exact k l q = sym (signed-add (lineTop m t l) k) ∙ ap (λ (z : ℤ). z +ℤ pos k) (top-exact l q)
 
     joined-exact : (box : PlacedLine → Rectangle) (box′ : SignedLine → SignedRectangle) → map signedRectangle (map box (placedLines m t)) ≡ map box′ (Signed.placedLines m (signedText t))
         → signedRectangle (joins (nowhere t) (map box (placedLines m t))) ≡ Signed.joins (Signed.nowhere (signedText t)) (map box′ (Signed.placedLines m (signedText t)))
@@ -158,13 +157,13 @@ module _ (m : MonoFont) (t : Text) where
     pub text-exact : Exact m t (signedText t)
     unfolding next Signed.next measuredBox Line.measuredBox Signed.measuredBox boundingBox Signed.boundingBox lineInk Line.inkBox Signed.lineInk inkBox Signed.inkBox
     text-exact =
-        let measured = boxes-exact (λ s. measuredWidth m (length (chars s))) (measuredHeight m (t .characterStyle)) in
-        let ink = boxes-exact (λ s. advance m (t .characterStyle) (length (chars s))) (inkHeight m) in
+        let measured = each-line (measuredBox m t) signedRectangle (Signed.measuredBox m (signedText t)) (λ l q. rw (top-exact l q)) in
+        let ink = each-line (lineInk m t) signedRectangle (Signed.lineInk m (signedText t)) (λ l q. rw (row-exact (inkRows m (t .characterStyle) .top) l q)) in
         record {
           lines = lines-exact;
           tops = each-line (lineTop m t) signed (Signed.lineTop m (signedText t)) top-exact;
           characters = λ l k. sym (signed-add (l .x) (k * (characterWidth m + spacing m)));
-          decorations = λ l q d. sym (signed-add (lineTop m t l) (d .offset)) ∙ ap (λ (z : ℤ). z +ℤ pos (d .offset)) (top-exact l q);
+          decorations = λ l q d. row-exact (d .offset) l q;
           measured-boxes = measured;
           line-inks = ink;
           next = last-exact (placedLines m t) (t .position) ∙ ap (Signed.lastNext m (signedText t) (signedPoint (t .position))) lines-exact;

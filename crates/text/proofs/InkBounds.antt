@@ -1,9 +1,9 @@
--- Where a text's ink box can stand, told from its place, its heights and its bytes without its characters. Assumes nothing.
-use Prim.Native.Nat.{ℕ, suc, _+_, _-_, _*_, _≤_, _<_, max}
+-- Where a text's ink box can stand, told from its place, its heights, its style and its bytes without its characters. Assumes nothing.
+use Prim.Native.Nat.{ℕ, suc, _+_, _-_, _*_, _≤_, _<_}
 use native.Mathlib.Nat.{mul-le-mul, mul-le-mul-right}
 use native.Mathlib.Omega.{arith}
 use native.Mathlib.Numerals.{add-one}
-use mathlib.Core.Path.{_≡_, refl}
+use mathlib.Core.Path.{_≡_, refl, ap}
 use mathlib.Core.Bool.{Bool, true, false, cond}
 use mathlib.Core.List.{List, [], _∷_, map, List·Memᴰ, List·Memᴰ·head, List·Memᴰ·tail}
 use lib.ListN.{length, drop, getD, drop-of-length-le}
@@ -13,62 +13,28 @@ use borrow.Author.Tests.{leb-true}
 use mir.Syntax.{w16, w32}
 use mir.Val.{Fits}
 use Rattle.geometry.specs.declared.Rectangle.{Rectangle}
-use Rattle.geometry.specs.Rectangle.{isEmpty, envelope, join, joins, intersection}
-use Rattle.geometry.proofs.Rectangles.{In, in-not-empty, not-empty, intersection-both}
+use Rattle.geometry.specs.Rectangle.{rectangle, isEmpty, join, joins, intersection}
+use Rattle.geometry.proofs.Rectangles.{In, Within, join-within, joins-within, apart-within}
 use Rattle.characters.specs.Utf8.{chars}
 use Rattle.characters.specs.Lines.{before, lines, withoutReturn}
 use Rattle.characters.proofs.Folds.{length-chars}
 use Rattle.characters.proofs.Feeds.{length-without-return}
 use Rattle.line.specs.declared.MonoFont.{MonoFont}
 use Rattle.line.specs.declared.MonoTextStyle.{MonoTextStyle}
-use Rattle.line.specs.Line.{characterWidth, spacing, baselineOffset, topEdge, measuredWidth, inkHeight}
+use Rattle.line.specs.Line.{characterWidth, spacing, baselineOffset, topEdge, measuredWidth, inkRows}
 use Rattle.line.specs.Line
 use Rattle.line.specs.Limits.{FontLimits}
 use Rattle.line.proofs.Advances.{advance-width}
+use Rattle.line.proofs.Ink.{rows-low}
 use Rattle.text.specs.declared.Alignment.{Alignment}
 use Rattle.text.specs.declared.Alignment.the-variants.{Left, Center, Right}
 use Rattle.text.specs.declared.LineHeight.{LineHeight}
 use Rattle.text.specs.declared.TextStyle.{TextStyle}
 use Rattle.text.specs.Text.{Text, textOf, alignedStart, lineHeight, placeLine, placeLines, placedLines, nowhere, lineInk, inkBox}
 use Rattle.text.specs.Lines.{feedCount, startReach, isBelow}
-use Rattle.text.specs.Limits.{TextLimits, HeightLimit}
+use Rattle.text.specs.Limits.{TextLimits, HeightLimit, StartLimits}
 use Rattle.text.proofs.Exact.{length-line}
 use Rattle.text.proofs.Places.{height-small}
-
--- ---- a rectangle between two columns and two rows
-
-pub record Between (left right top foot : ℕ) (a : Rectangle) : Type 0 where
-  pub past-left : left ≤ a .left
-  pub to-right : a .left + a .width ≤ right
-  pub past-top : top ≤ a .top
-  pub to-foot : a .top + a .height ≤ foot
-
-module _ (left right top foot : ℕ) where
-  -- unless it is empty
-  abbrev pub Held : Rectangle → Type 0
-  Held a = isEmpty a ≡ false → Between left right top foot a
-
-  held-join : (a b : Rectangle) → Held a → Held b → Held (join a b)
-  unfolding join envelope
-  held-join a b p q = go (isEmpty b) refl (isEmpty a) refl
-    where
-      go : (t : Bool) → isEmpty b ≡ t → (u : Bool) → isEmpty a ≡ u → Held (cond t a (cond u b (envelope a b)))
-      go true eb u ea = p
-      go false eb true ea = q
-      go false eb false ea = λ e. omega (arith, p ea, q eb)
-
-  -- one that is held shares nothing with a clip that no place between those columns and rows is in
-  pub held-apart : (a clip : Rectangle) → Held a → ((c r : ℕ) → left ≤ c → c < right → top ≤ r → r < foot → In clip c r → ⊥) → isEmpty (intersection a clip) ≡ true
-  unfolding intersection
-  held-apart a clip h o = go (isEmpty (intersection a clip)) refl
-    where
-      go : (t : Bool) → isEmpty (intersection a clip) ≡ t → t ≡ true
-      go true e = refl
-      go false e =
-          let i : In (intersection a clip) (max (a .left) (clip .left)) (max (a .top) (clip .top)) = omega (arith, not-empty (intersection a clip) e) in
-          let p = intersection-both (max (a .left) (clip .left)) (max (a .top) (clip .top)) a clip i in
-          let b = h (in-not-empty a _ _ (p .0)) in
-          absurd (o (max (a .left) (clip .left)) (max (a .top) (clip .top)) (omega arith) (omega (arith, p .0)) (omega arith) (omega (arith, p .0)) (p .1))
 
 -- ---- lines
 
@@ -116,7 +82,7 @@ reach-near Center w = omega arith
 reach-near Right w = omega arith
 
 -- the columns are found in 32 bits
-module _ (a : Alignment) (n x y w r : ℕ) (h : LineHeight) (limits : TextLimits n x y h) (small : w ≤ 1_048_576) (e : r ≡ startReach a w) where
+module _ (a : Alignment) (n x w r : ℕ) (limits : StartLimits n x) (small : w ≤ 1_048_576) (e : r ≡ startReach a w) where
   pub reach-fits : Fits w32 (x + r)
   reach-fits = omega (arith, reach-near a w)
 
@@ -124,7 +90,7 @@ module _ (a : Alignment) (n x y w r : ℕ) (h : LineHeight) (limits : TextLimits
   right-fits = omega (arith, reach-near a w)
 
 -- the lines of a text of n bytes, from `first` on, the last no lower than `span` below it: each one's ink box stands between the columns that the
--- widest line could reach, and between the first line's top edge and the last line's ink
+-- widest line could reach, and between the first row of the first line's ink and the last of the last line's
 module _ (m : MonoFont) (t : Text) (n first span : ℕ) where
   abbrev widest : ℕ
   widest = n * (characterWidth m + spacing m)
@@ -135,25 +101,28 @@ module _ (m : MonoFont) (t : Text) (n first span : ℕ) where
   abbrev height : ℕ
   height = lineHeight m (t .textStyle .«line_height»)
 
-  abbrev InkHeld : Rectangle → Type 0
-  InkHeld = Held (t .position .x - reach) (t .position .x + reach + widest) (topEdge m (t .textStyle .baseline) first) (topEdge m (t .textStyle .baseline) first + (span + inkHeight m))
+  abbrev rows : Rectangle
+  rows = inkRows m (t .characterStyle)
+
+  abbrev around : Rectangle
+  around = rectangle (t .position .x - reach) (topEdge m (t .textStyle .baseline) first + rows .top) (t .position .x + reach + widest - (t .position .x - reach)) (span + rows .height)
 
   narrow : (l : List ℕ) → length l ≤ n → length (chars l) * (characterWidth m + spacing m) ≤ widest
   narrow l h = mul-le-mul-right (characterWidth m + spacing m) (omega (arith, length-chars l))
 
-  line-held : (l : List ℕ) (at : ℕ) → length l ≤ n → first ≤ at → at ≤ first + span → InkHeld (lineInk m t (placeLine m t l at))
+  line-within : (l : List ℕ) (at : ℕ) → length l ≤ n → first ≤ at → at ≤ first + span → Within (lineInk m t (placeLine m t l at)) around
   unfolding lineInk placeLine Line.inkBox measuredWidth
-  line-held l at h p q e =
+  line-within l at h p q c r i =
       let w : measuredWidth m (length (chars l)) ≤ widest = omega (arith, narrow l h) in
       omega (arith, narrow (withoutReturn l) (omega (arith, length-without-return l)), advance-width m (t .characterStyle) (length (chars (withoutReturn l))), start-past (t .position .x) _ widest w (t .textStyle .alignment), start-to (t .position .x) _ widest w (t .textStyle .alignment))
 
-  lines-held : (ls : List (List ℕ)) (at : ℕ) (area : Rectangle) → ((l : List ℕ) → List·Memᴰ l ls → length l ≤ n) → first ≤ at → at + length ls * height ≤ first + span + height → InkHeld area
-      → InkHeld (joins area (map (lineInk m t) (placeLines m t ls at)))
+  lines-within : (ls : List (List ℕ)) (at : ℕ) (area : Rectangle) → ((l : List ℕ) → List·Memᴰ l ls → length l ≤ n) → first ≤ at → at + length ls * height ≤ first + span + height → Within area around
+      → Within (joins area (map (lineInk m t) (placeLines m t ls at))) around
   unfolding joins placeLines
-  lines-held [] at area s p q h = h
-  lines-held (l ∷ ls) at area s p q h =
-      lines-held ls (at + height) (join area (lineInk m t (placeLine m t l at))) (λ k i. s k (List·Memᴰ·tail i)) (omega arith) (omega arith)
-      (held-join _ _ _ _ area (lineInk m t (placeLine m t l at)) h (line-held l at (s l (List·Memᴰ·head refl)) p (omega arith)))
+  lines-within [] at area s p q h = h
+  lines-within (l ∷ ls) at area s p q h =
+      lines-within ls (at + height) (join area (lineInk m t (placeLine m t l at))) (λ k i. s k (List·Memᴰ·tail i)) (omega arith) (omega arith)
+      (join-within around area (lineInk m t (placeLine m t l at)) h (line-within l at (s l (List·Memᴰ·head refl)) p (omega arith)))
 
 -- ---- `feed_count`: a turn at position i of the text
 
@@ -186,7 +155,7 @@ module _ (text : List ℕ) (i feeds : ℕ) (s : FeedsCounted text i feeds) where
   pub feeds-all : length text ≤ i → feeds ≡ feedCount text
   feeds-all h = omega (arith, s .counted, none-left h)
 
--- ---- `most_width` and `ink_depth`
+-- ---- `most_width` and `lines_span`
 
 pub few-feeds : (t : List ℕ) → feedCount t ≤ length t
 unfolding feedCount
@@ -200,29 +169,36 @@ module _ (m : MonoFont) (font : FontLimits m) (text : List ℕ) (short : length 
   pub width-fits : Fits w32 (length text * (characterWidth m + spacing m))
   width-fits = omega (arith, width-most)
 
-  module _ (h : LineHeight) (small : HeightLimit h) where
-    depth-most : feedCount text * lineHeight m h ≤ 4_096_000
-    depth-most = let p : feedCount text ≤ 4_096 = omega (arith, few-feeds text) in mul-le-mul p (height-small m font h (small .height-small))
+  module _ (h : LineHeight) (small : HeightLimit h) (feeds lower : ℕ) (ef : feeds ≡ feedCount text) (el : lower ≡ lineHeight m h) where
+    pub span-is : feeds * lower ≡ feedCount text * lineHeight m h
+    span-is = rw (ef, el)
 
-    module _ (feeds lower : ℕ) (ef : feeds ≡ feedCount text) (el : lower ≡ lineHeight m h) where
-      lower-most : feeds * lower ≤ 4_096_000
-      lower-most = rw (ef, el) depth-most
+    pub span-small : feeds * lower ≤ 4_194_304
+    span-small =
+        let p : feedCount text ≤ 4_096 = omega (arith, few-feeds text) in
+        let most : feedCount text * lineHeight m h ≤ 4_096_000 = mul-le-mul p (height-small m font h (small .height-small)) in
+        rw (ef, el) (omega (arith, most))
 
-      pub lower-fits : Fits w32 (feeds * lower)
-      lower-fits = omega (arith, lower-most)
+    pub span-fits : Fits w32 (feeds * lower)
+    span-fits = omega (arith, span-small)
 
-      module _ (ink : ℕ) (ei : ink ≡ inkHeight m) where
-        pub depth-is : feeds * lower + ink ≡ feedCount text * lineHeight m h + inkHeight m
-        depth-is = rw (ef, el, ei)
+-- ---- the rows of ink are found in 32 bits
 
-        pub depth-small : feeds * lower + ink ≤ 8_388_608
-        unfolding inkHeight
-        depth-small = omega (arith, lower-most)
+module _ (m : MonoFont) (s : MonoTextStyle) (font : FontLimits m) (rows : Rectangle) (er : rows ≡ inkRows m s) (n x y : ℕ) (h : LineHeight) (limits : TextLimits n x y h) (offset edge : ℕ) (ee : edge ≡ y - offset) where
+  low : rows .top + rows .height ≤ 510
+  low = rw er (rows-low m s font)
 
-        pub depth-fits : Fits w32 (feeds * lower + ink)
-        depth-fits = omega (arith, depth-small)
+  pub top-fits : Fits w32 (edge + rows .top)
+  top-fits = omega (arith, low)
 
--- ---- `is_apart`, and `starts_below` before it: a clip above the ink box, beside it or below it
+  module _ (top span : ℕ) (et : top ≡ edge + rows .top) (small : span ≤ 4_194_304) where
+    pub span-end-fits : Fits w32 (top + span)
+    span-end-fits = omega (arith, low)
+
+    pub foot-fits : Fits w32 (top + span + rows .height)
+    foot-fits = omega (arith, low)
+
+-- ---- `is_apart`, and `starts_below` before it: a clip above the ink box, beside it or below it, or a text without ink
 
 module _ (m : MonoFont) (text : List ℕ) (x y : ℕ) (ts : TextStyle) (s : MonoTextStyle) where
   abbrev whole : Text
@@ -231,23 +207,41 @@ module _ (m : MonoFont) (text : List ℕ) (x y : ℕ) (ts : TextStyle) (s : Mono
   abbrev spanned : ℕ
   spanned = feedCount text * lineHeight m (ts .«line_height»)
 
-  ink-held : InkHeld m whole (length text) y spanned (inkBox m whole)
+  abbrev Apart : Rectangle → Type 0
+  Apart clip = isEmpty (intersection (inkBox m whole) clip) ≡ true
+
+  ink-within : Within (inkBox m whole) (around m whole (length text) y spanned)
   unfolding inkBox placedLines
-  ink-held =
-      lines-held m whole (length text) y spanned (lines text) y (nowhere whole) (λ l i. length-line text l i) (omega arith) (rw (length-lines text) (omega arith))
-      (λ e. absurd (omega (arith, not-empty (nowhere whole) e)))
+  ink-within =
+      lines-within m whole (length text) y spanned (lines text) y (nowhere whole) (λ l i. length-line text l i) (omega arith) (rw (length-lines text) (omega arith))
+      (λ c r i. absurd (omega arith))
 
-  pub apart-above : (clip : Rectangle) → isBelow clip (topEdge m (ts .baseline) y) ≡ true → isEmpty (intersection (inkBox m whole) clip) ≡ true
+  pub apart-above : (clip : Rectangle) → isBelow clip (topEdge m (ts .baseline) y) ≡ true → Apart clip
   unfolding isBelow
-  apart-above clip e = let h = leb-true (clip .height) (topEdge m (ts .baseline) y - clip .top) e in held-apart _ _ _ _ (inkBox m whole) clip ink-held (λ c r p q u v i. omega arith)
+  apart-above clip e = let h = leb-true (clip .height) (topEdge m (ts .baseline) y - clip .top) e in apart-within _ _ clip ink-within (λ c r i j. omega arith)
 
-  module _ (clip : Rectangle) (offset top : ℕ) (eo : offset ≡ baselineOffset m (ts .baseline)) (et : top ≡ y - offset) where
-    pub apart-below : (depth : ℕ) → depth ≡ spanned + inkHeight m → leb (top + depth) (clip .top) ≡ true → isEmpty (intersection (inkBox m whole) clip) ≡ true
-    apart-below depth e h = held-apart _ _ _ _ (inkBox m whole) clip ink-held (λ c r p q u v i. omega (arith, leb-true (top + depth) (clip .top) h))
+  module _ (clip rows : Rectangle) (er : rows ≡ inkRows m s) where
+    -- no row counts
+    pub apart-none : rows .height ≡ 0 → Apart clip
+    unfolding inkBox lineInk Line.inkBox
+    apart-none h =
+        let k = ap (λ (a : Rectangle). a .height) er in
+        let none = rectangle 0 0 0 0 in
+        apart-within (inkBox m whole) none clip (joins-within none (lineInk m whole) (nowhere whole) (placedLines m whole) (λ c r i. absurd (omega arith)) (λ l q c r i. absurd (omega arith))) (λ c r i j. omega arith)
+
+    module _ (offset edge top : ℕ) (eo : offset ≡ baselineOffset m (ts .baseline)) (ee : edge ≡ y - offset) (et : top ≡ edge + rows .top) where
+      pub apart-first : (room : ℕ) → room ≡ top - clip .top → clip .height ≤ room → Apart clip
+      apart-first room e h = let t = ap (λ (a : Rectangle). a .top) er in apart-within _ _ clip ink-within (λ c r i j. omega arith)
+
+      pub apart-below : (span : ℕ) → span ≡ spanned → leb (top + span + rows .height) (clip .top) ≡ true → Apart clip
+      apart-below span e h =
+          let t = ap (λ (a : Rectangle). a .top) er in
+          let k = ap (λ (a : Rectangle). a .height) er in
+          apart-within _ _ clip ink-within (λ c r i j. omega (arith, leb-true (top + span + rows .height) (clip .top) h))
 
   module _ (clip : Rectangle) (widest reach : ℕ) (ew : widest ≡ length text * (characterWidth m + spacing m)) (er : reach ≡ startReach (ts .alignment) widest) where
-    pub apart-left : (from room : ℕ) → from ≡ x - reach → room ≡ from - clip .left → clip .width ≤ room → isEmpty (intersection (inkBox m whole) clip) ≡ true
-    apart-left from room ef e h = let k = rw ew at er in held-apart _ _ _ _ (inkBox m whole) clip ink-held (λ c r p q u v i. omega arith)
+    pub apart-left : (from room : ℕ) → from ≡ x - reach → room ≡ from - clip .left → clip .width ≤ room → Apart clip
+    apart-left from room ef e h = let k = rw ew at er in apart-within _ _ clip ink-within (λ c r i j. omega arith)
 
-    pub apart-right : x + reach + widest ≤ clip .left → isEmpty (intersection (inkBox m whole) clip) ≡ true
-    apart-right h = let k = rw ew at er in held-apart _ _ _ _ (inkBox m whole) clip ink-held (λ c r p q u v i. omega arith)
+    pub apart-right : leb (x + reach + widest) (clip .left) ≡ true → Apart clip
+    apart-right h = let k = rw ew at er in apart-within _ _ clip ink-within (λ c r i j. omega (arith, leb-true (x + reach + widest) (clip .left) h))

@@ -18,6 +18,7 @@ use Rattle.line.specs.declared.MonoTextStyle.{MonoTextStyle}
 use Rattle.line.specs.Line
 use Rattle.line.specs.Limits.{FontLimits}
 use Rattle.line.proofs.Advances.{width-small, advance-width}
+use Rattle.line.proofs.Ink.{rows-low}
 use Rattle.text.specs.declared.TextStyle.{TextStyle}
 use Rattle.text.specs.Text.{Text, textOf, lineHeight, placeLine, placeLines, placedLines, measuredBox, boundingBox, lineInk, inkBox}
 use Rattle.text.specs.Lines.{lineCorner, lineBox, linesBox}
@@ -37,6 +38,10 @@ module _ (ink : Bool) (m : MonoFont) (s : MonoTextStyle) (t : TextStyle) (x y : 
 
 -- ---- edges
 
+pub corner-near : (m : MonoFont) (t : TextStyle) (l : List ℕ) (x y : ℕ) (corner : Point) → corner ≡ lineCorner m t l x y → y ≤ 8_388_608 → corner .y ≤ 8_388_608
+unfolding lineCorner
+corner-near m t l x y corner e near = rw e (omega arith)
+
 measured-height-small : (m : MonoFont) (s : MonoTextStyle) → FontLimits m → Line.measuredHeight m s ≤ 510
 unfolding Line.measuredHeight
 measured-height-small m s limits = go (Line.isNone (s .«underline_color»))
@@ -47,14 +52,14 @@ measured-height-small m s limits = go (Line.isNone (s .«underline_color»))
 
 pub box-ends : (ink : Bool) (m : MonoFont) (s : MonoTextStyle) (t : TextStyle) (x y : ℕ) (line : List ℕ) (r : Rectangle) → FontLimits m → LineLimits (length line) x y
     → r ≡ lineBox ink m (textOf line x y s t) (placeLine m (textOf line x y s t) line y) → EndsFit r
-unfolding lineBox lineInk measuredBox placeLine Line.inkBox Line.inkHeight Line.measuredBox Line.measuredWidth
+unfolding lineBox lineInk measuredBox placeLine Line.inkBox Line.measuredBox Line.measuredWidth
 box-ends ink m s t x y line r font limits e = rw e (go ink)
   where
     wide : length (chars (withoutReturn line)) * (Line.characterWidth m + Line.spacing m) ≤ 8_388_608
     wide = width-small m font (withoutReturn line) (omega (arith, length-without-return line)) (length (chars (withoutReturn line))) refl
 
     go : (b : Bool) → EndsFit (cond b (lineInk m (textOf line x y s t) (placeLine m (textOf line x y s t) line y)) (measuredBox m (textOf line x y s t) (placeLine m (textOf line x y s t) line y)))
-    go true = omega (arith, wide, advance-width m s (length (chars (withoutReturn line))), start-near (t .alignment) x (Line.measuredWidth m (length (chars line))))
+    go true = omega (arith, wide, rows-low m s font, advance-width m s (length (chars (withoutReturn line))), start-near (t .alignment) x (Line.measuredWidth m (length (chars line))))
     go false = omega (arith, wide, measured-height-small m s font, start-near (t .alignment) x (Line.measuredWidth m (length (chars line))))
 
 -- ---- `lines_box`

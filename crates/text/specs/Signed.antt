@@ -18,7 +18,7 @@ use Rattle.line.specs.declared.Baseline.{Baseline}
 use Rattle.line.specs.declared.DecorationDimensions.{DecorationDimensions}
 use Rattle.line.specs.declared.MonoFont.{MonoFont}
 use Rattle.line.specs.declared.MonoTextStyle.{MonoTextStyle}
-use Rattle.line.specs.Line.{characterWidth, spacing, baselineOffset, advance, measuredWidth, measuredHeight, inkHeight}
+use Rattle.line.specs.Line.{characterWidth, spacing, baselineOffset, advance, measuredWidth, measuredHeight, inkRows}
 use Rattle.text.specs.declared.Alignment.{Alignment}
 use Rattle.text.specs.declared.Alignment.the-variants.{Left, Center, Right}
 use Rattle.text.specs.declared.TextStyle.{TextStyle}
@@ -177,9 +177,9 @@ measuredBox m t l = rectangle (l .x) (lineTop m t l) (measuredWidth m (length (c
 unfoldable pub boundingBox : MonoFont → SignedText → SignedRectangle
 boundingBox m t = joins (nowhere t) (map (measuredBox m t) (placedLines m t))
 
--- "A line's ink box starts at its x and top edge, is its advance wide, and max(ch, each decoration's offset + height) high"
+-- "the smallest rectangle over these rows and the advance; none if no row counts"
 unfoldable pub lineInk : MonoFont → SignedText → SignedLine → SignedRectangle
-lineInk m t l = rectangle (l .x) (lineTop m t l) (advance m (t .characterStyle) (length (chars (l .text)))) (inkHeight m)
+lineInk m t l = rectangle (l .x) (lineTop m t l +ℤ pos (inkRows m (t .characterStyle) .top)) (advance m (t .characterStyle) (length (chars (l .text)))) (inkRows m (t .characterStyle) .height)
 
 -- "An item's ink box is the smallest holding its nonempty line boxes"
 unfoldable pub inkBox : MonoFont → SignedText → SignedRectangle

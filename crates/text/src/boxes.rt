@@ -13,18 +13,18 @@ use line::MonoFont;
 use line::MonoTextStyle;
 ghost use mathlib.Core.Path.{_≡_};
 ghost use mathlib.Core.Bool.{true, cond};
-ghost use Prim.Native.Nat.{_+_, _*_, _≤_};
+ghost use Prim.Native.Nat.{ℕ, _+_, _*_, _≤_};
 ghost use lib.Dec.{eqb};
 ghost use lib.ListN.{length};
 ghost use Rattle.geometry.specs.Rectangle.{isEmpty, intersection};
 ghost use Rattle.geometry.specs.Canvas.{EndsFit};
 ghost use Rattle.characters.specs.Lines.{lineFrom};
 ghost use Rattle.line.specs.declared.MonoTextStyle.{MonoTextStyle};
-ghost use Rattle.line.specs.Line.{characterWidth, spacing, inkHeight};
+ghost use Rattle.line.specs.Line.{characterWidth, spacing};
 ghost use Rattle.line.specs.Limits.{FontLimits};
 ghost use Rattle.text.specs.Text.{textOf, lineHeight, placeLine, boundingBox, inkBox};
 ghost use Rattle.text.specs.Lines.{feedCount, startReach, either, LiesAt, lineBox, linesBox};
-ghost use Rattle.text.specs.Limits.{TextLimits, HeightLimit, LineLimits};
+ghost use Rattle.text.specs.Limits.{TextLimits, HeightLimit, StartLimits, LineLimits};
 
 // The text that a line is a part of, while the layouts before and after an edit are found.
 pub enum Source {
@@ -217,32 +217,24 @@ fn most_width(text: &[u8], font: MonoFont) -> u32
     text.len() as u32 * pitch
 }
 
-// How far below its first line's top edge a text's ink reaches at most.
-fn ink_depth(text: &[u8], font: MonoFont, height: LineHeight) -> u32
+// How much lower the last line of a text stands than the first.
+fn lines_span(text: &[u8], font: MonoFont, height: LineHeight) -> u32
     requires { ⌜ FontLimits font ⌝ }
     requires { ⌜ HeightLimit height ⌝ }
     requires { ⌜ length (now text) ≤ 4_096 ⌝ }
-    ensures { λ r. ⌜ r ≡ feedCount (now (text .entry)) * lineHeight font height + inkHeight font ⌝ }
-    ensures { λ r. ⌜ r ≤ 8_388_608 ⌝ }
+    ensures { λ r. ⌜ r ≡ feedCount (now (text .entry)) * lineHeight font height ⌝ }
+    ensures { λ r. ⌜ r ≤ 4_194_304 ⌝ }
 {
     let lower = line_height(font, height);
     let feeds = feed_count(text);
-    feeds * lower + line::ink_height(font)
+    feeds * lower
 }
 
-// Whether a text's ink box, in whatever style, is known not to meet a clip: the clip lies beside what its widest line could reach, or starts
-// below its last line.
-pub fn is_apart(
-    text: &[u8],
-    font: MonoFont,
-    text_style: TextStyle,
-    x: u32,
-    y: u32,
-    clip: Rectangle,
-) -> bool
+// Whether a clip lies beside what a text's widest line could reach, in whatever style and at whatever y.
+fn is_beside(text: &[u8], font: MonoFont, text_style: TextStyle, x: u32, clip: Rectangle) -> bool
     requires { ⌜ FontLimits font ⌝ }
-    requires { ⌜ TextLimits (length (now text)) x y («text_style» .«line_height») ⌝ }
-    ensures { λ r. ⌜ (r ≡ true → (style : MonoTextStyle) → isEmpty (intersection (inkBox font (textOf (now (text .entry)) x y style «text_style»)) clip) ≡ true) ⌝ }
+    requires { ⌜ StartLimits (length (now text)) x ⌝ }
+    ensures { λ r. ⌜ (r ≡ true → (style : MonoTextStyle) (y : ℕ) → isEmpty (intersection (inkBox font (textOf (now (text .entry)) x y style «text_style»)) clip) ≡ true) ⌝ }
 {
     let widest = most_width(text, font);
     let alignment = text_style.alignment;
@@ -250,11 +242,37 @@ pub fn is_apart(
     if clip.width <= minus(minus(x, reach), clip.left) {
         return true;
     }
-    if x + reach + widest <= clip.left {
+    x + reach + widest <= clip.left
+}
+
+// Whether a text's ink box is known not to meet a clip: the clip lies beside its lines, no row of a line counts, or the clip ends above the first
+// row of ink or starts below the last.
+pub fn is_apart(
+    text: &[u8],
+    font: MonoFont,
+    style: MonoTextStyle,
+    text_style: TextStyle,
+    x: u32,
+    y: u32,
+    clip: Rectangle,
+) -> bool
+    requires { ⌜ FontLimits font ⌝ }
+    requires { ⌜ TextLimits (length (now text)) x y («text_style» .«line_height») ⌝ }
+    ensures { λ r. ⌜ (r ≡ true → isEmpty (intersection (inkBox font (textOf (now (text .entry)) x y style «text_style»)) clip) ≡ true) ⌝ }
+{
+    if is_beside(text, font, text_style, x, clip) {
+        return true;
+    }
+    let rows = line::ink_rows(font, style);
+    if rows.height == 0 {
         return true;
     }
     let baseline = text_style.baseline;
-    let top = minus(y, line::baseline_offset(font, baseline));
+    let edge = minus(y, line::baseline_offset(font, baseline));
+    let top = edge + rows.top;
+    if clip.height <= minus(top, clip.top) {
+        return true;
+    }
     let height = text_style.line_height;
-    top + ink_depth(text, font, height) <= clip.top
+    top + lines_span(text, font, height) + rows.height <= clip.top
 }

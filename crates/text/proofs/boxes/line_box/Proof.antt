@@ -1,6 +1,6 @@
 -- `line_box` meets its contract: a placed line's boxes start at its corner and have no return. Assumes nothing.
 use borrow.Author.Needs.{needs}
-use Rattle.text.proofs.LineBoxes.{line-ink-box, line-measured-box}
+use Rattle.text.proofs.LineBoxes.{line-ink-box, line-measured-box, corner-near}
 use Rattle.text.proofs.boxes.line_box.Statement.{statement}
 use Rattle.text.proofs.boxes.line_box.Tie as tie
 
@@ -11,7 +11,7 @@ line-corner-requires : tie.Need-line-corner-requires
 line-corner-requires c κs = search needs
 
 ink-box-requires : tie.Need-ink-box-requires
-ink-box-requires c κs = search needs
+ink-box-requires c κs = (search needs, (search needs, search corner-near))
 
 returns : tie.Need-returns
 returns c = search line-ink-box
