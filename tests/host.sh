@@ -106,6 +106,17 @@ joined() {
   done
 }
 
+# ink COMPILER: rectangles that end at the first and the last row that counts as ink.
+ink() {
+  "$1" -std=c99 -O2 "${warnings[@]}" tests/host/ink.c "$archive" -o "$out/ink" && "$out/ink"
+}
+
+# radio COMPILER: a day of edits on two sheets, of which a page ashore gets the rectangles; what they come to is stored.
+radio() {
+  "$1" -std=c99 -O2 "${warnings[@]}" tests/host/radio.c "$archive" -o "$out/radio" &&
+    for name in hydrograph georgian; do "$out/radio" "samples/$name.sheet" "samples/$name.day"; done | diff tests/host/radio.stdout -
+}
+
 # worst COMPILER: the program that times the worst cases; it runs for several seconds, and only its building is tested.
 worst() {
   "$1" -std=c99 -O2 "${warnings[@]}" bench/worst.c "$archive" -o "$out/worst"
@@ -152,6 +163,8 @@ try "stack of each call under 4 KiB, added up" python3 tests/host/stack.py "$arc
 try "no variables, and memset alone" no_variables
 try "threads on one sheet, gcc" threads gcc
 try "lines in two runs, gcc" joined gcc
+try "ink that no style paints, gcc" ink gcc
+try "a day of edits by radio, gcc" radio gcc
 for name in gcc clang; do
   try "worst cases are built, $name" worst "$name"
 done
