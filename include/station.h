@@ -45,14 +45,15 @@ extern "C" {
 #endif
 
 /*
- * The version of this header and of the archive that is built beside it. MAJOR rises when a host may have to change: a declaration, a name or a
- * reply is another. MINOR rises when something is added, and PATCH when no declaration and no reply changes. What a sheet of edition 1
- * means, and so its page, is the same in every version; another meaning would be another edition.
+ * The version of this header and of the archive that is built beside it. MAJOR rises when a host may have to change: a declaration or a name is
+ * another, or a reply means another thing. MINOR rises when something is added, or when a reply that means the same has other numbers, as the
+ * rectangles of edits have since 2.1.0; PATCH when no declaration and no reply changes. What a sheet of edition 1 means, and so its page, is the
+ * same in every version; another meaning would be another edition.
  */
 #define STATION_VERSION_MAJOR 2
-#define STATION_VERSION_MINOR 0
+#define STATION_VERSION_MINOR 1
 #define STATION_VERSION_PATCH 0
-#define STATION_VERSION "2.0.0"
+#define STATION_VERSION "2.1.0"
 
 /* The most bytes that a sheet, a frame, a page, a slot and with it a text can have; a style has always as many. */
 #define STATION_MOST_SHEET 65536
@@ -266,6 +267,10 @@ station_number station_write_page(const uint8_t *sheet, size_t sheet_length, con
  * Each changes one item in the sheet and repaints the damage rectangle, which it replies: the smallest that holds the item's ink before
  * and after, cut to the frame; all 0 if nothing of it is on the frame. If the frame held the drawing of the sheet, it now holds that of the
  * changed sheet. Pixels outside the rectangle keep their grey.
+ *
+ * The ink of a line is as wide as the line and has the rows that its style paints, and those between them: the characters', if a text or
+ * background grey is set, and each decoration's that is drawn. An item that has no such row before the edit and none after it replies all 0,
+ * and no pixel is painted.
  */
 
 /*

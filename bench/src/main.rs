@@ -291,6 +291,6 @@ fn main() {
     let station = station();
     draw_pages(&station);
     edit_page(&station, "each apart from the others", || pages::lines(1));
-    edit_page(&station, "each over four others", pages::overlapping);
+    edit_page(&station, "each over two others", pages::overlapping);
     singles(&station);
 }

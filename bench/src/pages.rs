@@ -91,7 +91,7 @@ pub fn hanging(shown: usize) -> SheetModel {
     sheet
 }
 
-/// 64 lines of 32 characters on 320 × 200, 3 rows apart: each ink box overlaps four others.
+/// 64 lines of 32 characters on 320 × 200, 3 rows apart: each ink box overlaps two others.
 pub fn overlapping() -> SheetModel {
     let mut sheet = sheet(320, 200, font(5, 6, ASCII));
     for number in 0..64 {
