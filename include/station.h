@@ -11,12 +11,13 @@
  *
  * Replies. Each reply has a code: STATION_OK, or the number of a refusal. Every call that takes a sheet checks the whole sheet first, so
  * that it may answer each refusal of station_check; the refusals named with a call are its own, and come after those. docs/REFUSALS.md has
- * the cause of each refusal and what to do. In a refused reply the other fields are 0, and sheet, frame and output keep every byte.
+ * the cause of each refusal and what to do. In a refused reply the other fields are 0, and sheet, frame and output keep every byte; a list of
+ * edits alone may stop at one that is refused, after others that were made (station_edit_list).
  *
  * Buffers. A slice is a pointer and then its length in bytes.
  * - The pointer leads to at least that many bytes, and the call touches no other byte of the caller's.
- * - Lengths are exact: a sheet's is its length field, a frame's width x height, a style's 8. A larger buffer is handed over with the length of
- *   what it holds, not with its own size. An output alone may be longer than what is written.
+ * - Lengths are exact: a sheet's is its length field, a frame's width x height, a style's 8, a list's that of its entries. A larger buffer is
+ *   handed over with the length of what it holds, not with its own size. An output alone may be longer than what is written.
  * - A slice that a call writes (its pointer is not const) overlaps no other slice of that call: a new text is not a part of the sheet that
  *   it is stored in. Slices that are only read may overlap. This rule and the true lengths are all that the library trusts its caller with,
  *   and it tests neither: a sheet that is overwritten while it is read is no longer the sheet that was checked, and the call may then read
@@ -51,9 +52,9 @@ extern "C" {
  * same in every version; another meaning would be another edition.
  */
 #define STATION_VERSION_MAJOR 2
-#define STATION_VERSION_MINOR 1
+#define STATION_VERSION_MINOR 2
 #define STATION_VERSION_PATCH 0
-#define STATION_VERSION "2.1.0"
+#define STATION_VERSION "2.2.0"
 
 /* The most bytes that a sheet, a frame, a page, a slot and with it a text can have; a style has always as many. */
 #define STATION_MOST_SHEET 65536
@@ -96,6 +97,12 @@ extern "C" {
 #define STATION_ITEM_AT_HEIGHT_KIND 23
 #define STATION_ITEM_AT_HEIGHT 24
 
+/* The kinds of a list's entries, and how many bytes an entry has before its data: kind (1), item (1), and the number of the data's bytes (2). */
+#define STATION_EDIT_TEXT 0
+#define STATION_EDIT_PLACE 1
+#define STATION_EDIT_STYLE 2
+#define STATION_ENTRY_HEAD 4
+
 /* The codes. docs/REFUSALS.md has the cause of each. */
 enum station_code {
     STATION_OK = 0,
@@ -119,7 +126,8 @@ enum station_code {
     STATION_REFUSED_WHITESPACE = 18,
     STATION_REFUSED_BDF_LINE = 19,
     STATION_REFUSED_BDF_LIMIT = 20,
-    STATION_REFUSED_BDF_ENCODING = 21
+    STATION_REFUSED_BDF_ENCODING = 21,
+    STATION_REFUSED_LIST = 22
 };
 
 /* A code and a value: yes or no as 1 or 0, or a length. */
@@ -158,6 +166,16 @@ typedef struct {
     uint32_t width;
     uint32_t height;
 } station_box;
+
+/* A code, how many edits of a list were made, and a rectangle as in station_box. */
+typedef struct {
+    uint32_t code;
+    uint32_t made;
+    int32_t left;
+    int32_t top;
+    uint32_t width;
+    uint32_t height;
+} station_batch;
 
 /* A step of the walker: at the line's end ended is 1 and next the offset as given, otherwise ended is 0 and the fields are the character and
  * the offset of the next. */
@@ -293,6 +311,25 @@ station_box station_set_place(uint8_t *sheet, size_t sheet_length, uint8_t *fram
  */
 station_box station_set_style(uint8_t *sheet, size_t sheet_length, uint8_t *frame, size_t frame_length, uint32_t item, const uint8_t *style,
                               size_t style_length);
+
+/*
+ * Makes a list of edits in one call, in order, each as one of the three calls above makes it. The list is entries one after another, without
+ * a gap: the edit's kind (1 byte: STATION_EDIT_TEXT, STATION_EDIT_PLACE or STATION_EDIT_STYLE), the item's number (1), the number of the
+ * data's bytes (2, low byte first) and the data: the text, the place's x and y (4 bytes each, signed, low byte first), or the style's 8 bytes.
+ *
+ * The first edit that is refused stops the list: the edits before it stand, and those behind it are not made. code: the number of that
+ * refusal, or STATION_OK. made: how many edits were made. The rectangle: the smallest that holds the rectangles of the edits made, all 0 if
+ * none of them painted. So in this reply the other fields need not be 0 where the code is not. Sheet and frame are as after the same calls,
+ * made one by one up to there: a pixel that no single edit repaints keeps its grey, also inside the rectangle. An empty list is good, and
+ * changes nothing. The sheet is checked once.
+ *
+ * Before any edit the whole list is tested: STATION_REFUSED_LIST if the entries do not fill it exactly, or one has another kind, or a place
+ * has not 8 bytes. At this refusal and those before it made is 0, and nothing changes; those after it are the edits' own.
+ * Refusals: STATION_REFUSED_FRAME_LENGTH, STATION_REFUSED_LIST, STATION_REFUSED_NO_SUCH, STATION_REFUSED_NEW_TEXT_TOO_LONG,
+ * STATION_REFUSED_NEW_TEXT_ILL_FORMED, STATION_REFUSED_PLACE, STATION_REFUSED_STYLE.
+ */
+station_batch station_edit_list(uint8_t *sheet, size_t sheet_length, uint8_t *frame, size_t frame_length, const uint8_t *list,
+                                size_t list_length);
 
 /* ---- edits on the sheet alone ----
  *

@@ -15,12 +15,13 @@ use Rattle.sheet.specs.Check.{check}
 use Rattle.sheet.specs.Accepted.{Accepted}
 use Rattle.sheet.specs.Requires.{FontListed, ItemListed, EditAllowed}
 use Rattle.sheet.specs.Edits.{Edit, refusal}
+use Rattle.entries.specs.Entries.{isFilled}
 use Rattle.characters.proofs.Refusals.{need-zero, orElse-zero, orElse-first}
 use Rattle.sheet.proofs.Acceptance.{accepted}
 use Rattle.drawing.specs.Drawing.{pixelCount}
 use Rattle.drawing.specs.Frames.{Framed}
 use Rattle.page.specs.Page.{pageHeader}
-use Rattle.calls.specs.Calls.{netpbm, isThere, fits, fontCode, itemCode, drawCode, drawItemCode, whitespaceCode, editCode, onSheetCode, pageCode}
+use Rattle.calls.specs.Calls.{netpbm, isThere, fits, fontCode, itemCode, drawCode, drawItemCode, whitespaceCode, editCode, editListCode, onSheetCode, pageCode}
 
 -- ---- each code is the first refusal of two
 
@@ -65,6 +66,10 @@ module _ (b frame : List ℕ) where
   pub editCode-is : (e : Edit) → editCode b frame e ≡ orElse (drawCode b frame) (refusal b e)
   unfolding editCode
   editCode-is e = after-frame (refusal b e)
+
+  pub editListCode-is : (list : List ℕ) → editListCode b frame list ≡ orElse (drawCode b frame) (need (isFilled list) 22 0)
+  unfolding editListCode
+  editListCode-is list = after-frame (need (isFilled list) 22 0)
 
   pub pageCode-is : (output : List ℕ) → pageCode b frame output ≡ orElse (drawCode b frame) (need (leb (length (netpbm b frame)) (length output)) 17 0)
   unfolding pageCode
@@ -190,3 +195,12 @@ module _ (b frame output : List ℕ) (n w h len : ℕ) (e : n ≡ drawCode b fra
 
   pub page-unfit : length output < len → 17 ≡ pageCode b frame output
   page-unfit q = rw (pageCode-is b frame output, ← e, z, length-netpbm, lt-leb len (length output) q)
+
+-- ---- 22
+
+module _ (b frame list : List ℕ) (n : ℕ) (e : n ≡ drawCode b frame) (z : n ≡ 0) (t : Bool) (et : t ≡ isFilled list) where
+  pub list-filled : t ≡ true → 0 ≡ editListCode b frame list
+  list-filled q = rw (editListCode-is b frame list, ← e, z, ← et, q)
+
+  pub list-unfilled : t ≡ false → 22 ≡ editListCode b frame list
+  list-unfilled q = rw (editListCode-is b frame list, ← e, z, ← et, q)

@@ -1,5 +1,5 @@
 -- A coordinate as a signed number of 32 bits, and the replies made of two of them. Assumes nothing.
-use Prim.Native.Nat.{ℕ, suc, _-_, _^_, _<_}
+use Prim.Native.Nat.{ℕ, suc, _-_, _%_, _^_, _<_}
 use native.Mathlib.Omega.{arith}
 use mathlib.Core.Path.{_≡_, ap, _∙_}
 use mathlib.Core.Bool.{Bool, true, false, cond}
@@ -13,13 +13,14 @@ use borrow.Author.Tests.{lt-ltb}
 use Rattle.geometry.specs.declared.Point.{Point}
 use Rattle.geometry.specs.declared.Rectangle.{Rectangle}
 use Rattle.geometry.specs.Layer.{origin, signed}
-use Rattle.sheet.specs.Edits.{newPlace, placeRefusal, refusal}
+use Rattle.text.specs.Signed.{signedRectangle}
 use Rattle.edits.proofs.Signed.{read}
 use Rattle.calls.specs.declared.Position.{Position}
 use Rattle.calls.specs.declared.Drawn.{Drawn}
 use Rattle.calls.specs.declared.Box.{Box}
-use Rattle.calls.specs.Calls.{positionReply, drawnReply, boxReply, editCode, onSheetCode}
-use Rattle.calls.specs.Replies.{PointFits, CornerFits}
+use Rattle.calls.specs.declared.Batch.{Batch}
+use Rattle.calls.specs.Calls.{positionReply, drawnReply, boxReply, batch}
+use Rattle.calls.specs.Replies.{PointFits, CornerFits, boxOf}
 
 by-sign : (x : ℕ) → x < 2 ^ 31 → (t : Bool) → SFits w32 (cond t (negsuc (origin - suc x)) (pos (x - origin)))
 by-sign x h true = record { sfits = omega arith }
@@ -52,20 +53,14 @@ pub drawn-is : (p : Point) (x y : ℤ) (n : ℕ) → PointFits p → x ≡ signe
 unfolding drawnReply
 drawn-is p x y n f ex ey = rw (read-signed (p .x) (f .x) x ex, read-signed (p .y) (f .y) y ey)
 
-pub box-is : (a : Rectangle) (left top : ℤ) → CornerFits a → left ≡ signed (a .left) → top ≡ signed (a .top)
-    → _≡_ {A = Box} (record { code = 0; left = read left; top = read top; width = a .width; height = a .height }) (boxReply 0 a)
+pub box-is : (a : Rectangle) (r : Box) → r ≡ boxOf 0 a → r ≡ boxReply 0 a
 unfolding boxReply
-box-is a left top f el et = rw (read-signed (a .left) (f .left) left el, read-signed (a .top) (f .top) top et)
+box-is a r q = q
 
--- a new place, as the code reads it
-pub new-place-read : (i : ℕ) (x y : ℤ) → SFits w32 x → SFits w32 y → newPlace i (read x) (read y) ≡ newPlace i x y
-new-place-read i x y fx fy = rw (toZ-ofZ {z = x} fx, toZ-ofZ {z = y} fy)
+pub edited-is : (code : ℕ) (a : Rectangle) (left top : ℤ) → CornerFits a → left ≡ signed (a .left) → top ≡ signed (a .top)
+    → _≡_ {A = Box} (record { code = code; left = read left; top = read top; width = a .width; height = a .height }) (boxOf code a)
+edited-is code a left top f el et = rw (read-signed (a .left) (f .left) left el, read-signed (a .top) (f .top) top et)
 
-pub place-read : (b : List ℕ) (i r : ℕ) (x y : ℤ) → SFits w32 x → SFits w32 y → r ≡ placeRefusal b i (read x) (read y) → r ≡ placeRefusal b i x y
-place-read b i r x y fx fy q = q ∙ ap (refusal b) (new-place-read i x y fx fy)
-
-pub place-code-read : (b frame : List ℕ) (i n : ℕ) (x y : ℤ) → SFits w32 x → SFits w32 y → n ≡ editCode b frame (newPlace i (read x) (read y)) → n ≡ editCode b frame (newPlace i x y)
-place-code-read b frame i n x y fx fy q = q ∙ ap (editCode b frame) (new-place-read i x y fx fy)
-
-pub place-on-sheet-code-read : (b : List ℕ) (i n : ℕ) (x y : ℤ) → SFits w32 x → SFits w32 y → n ≡ onSheetCode b (newPlace i (read x) (read y)) → n ≡ onSheetCode b (newPlace i x y)
-place-on-sheet-code-read b i n x y fx fy q = q ∙ ap (onSheetCode b) (new-place-read i x y fx fy)
+pub batch-is : (code made : ℕ) (a : Rectangle) (left top : ℤ) → CornerFits a → left ≡ signed (a .left) → top ≡ signed (a .top)
+    → _≡_ {A = Batch} (record { code = code; made = made % 4_294_967_296; left = read left; top = read top; width = a .width; height = a .height }) (batch code made (signedRectangle a))
+batch-is code made a left top f el et = rw (read-signed (a .left) (f .left) left el, read-signed (a .top) (f .top) top et)

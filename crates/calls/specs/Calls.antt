@@ -1,9 +1,9 @@
 -- The outcome of every exported call, for all inputs: its code, its reply and what it leaves of sheet, frame and output
 -- (docs/SHEET.md, Replies and refusals). Assumes nothing.
 -- To be believed: it says what a sheet means.
-use Prim.Native.Nat.{ℕ}
+use Prim.Native.Nat.{ℕ, suc, _%_, _^_}
 use mathlib.Core.Bool.{Bool, true, false}
-use mathlib.Core.List.{List, _++_}
+use mathlib.Core.List.{List, [], _∷_, _++_}
 use lib.Dec.{leb, ltb, eqb}
 use lib.IntN.{pos}
 use lib.ListN.{length, drop}
@@ -17,12 +17,14 @@ use Rattle.characters.specs.Utf8.{stepAt}
 use Rattle.mapping.specs.declared.Glyph as Mapping
 use Rattle.mapping.specs.Mapping.{glyph, contains}
 use Rattle.text.specs.Text.{next, replaced, boundingBox}
+use Rattle.text.specs.Signed.{SignedRectangle, rectangle, join}
 use Rattle.page.specs.Page.{pageHeader}
 use Rattle.sheet.specs.Fields.{frameWidth, frameHeight, fontCount, itemCount}
 use Rattle.sheet.specs.Check.{check}
 use Rattle.bdf.specs.Font.{fontOf, fontBytes, readCode}
 use Rattle.records.specs.Records.{font, item, itemFont}
 use Rattle.sheet.specs.Edits.{Edit, itemNumber, refusal, edited}
+use Rattle.entries.specs.Entries.{isFilled, editsOf}
 use Rattle.drawing.specs.Drawing.{itemLayer, freshDrawing, pixelCount, whitespaceLayer, whitespaceNext, damage, repainted}
 use Rattle.calls.specs.declared.Number.{Number}
 use Rattle.calls.specs.declared.Glyph.{Glyph}
@@ -30,6 +32,8 @@ use Rattle.calls.specs.declared.Position.{Position}
 use Rattle.calls.specs.declared.Drawn.{Drawn}
 use Rattle.calls.specs.declared.Box.{Box}
 use Rattle.calls.specs.declared.Step.{Step}
+use Rattle.calls.specs.declared.Batch.{Batch}
+use Rattle.calls.specs.Machine.{Machine, Run, runUntilRefused}
 
 -- ---- replies: "A good call returns 0 with its position, box, index, ..", "A refused one returns its number with zeros"
 
@@ -141,6 +145,57 @@ editSheet b frame e = unlessRefused (editCode b frame e) (edited b e) b
 
 unfoldable pub editFrame : List ℕ → List ℕ → Edit → List ℕ
 editFrame b frame e = unlessRefused (editCode b frame e) (repainted (edited b e) (editDamage b e) frame) frame
+
+-- ---- station_edit_list
+
+-- sheet and frame between two calls
+pub record Logger : Type 0 where
+  pub sheet : List ℕ
+  pub frame : List ℕ
+
+-- an edit with a frame: "each accepted edit repaints only its damage rectangle"
+abbrev pub patchedMachine : Machine Logger Edit Box
+patchedMachine = record {
+  next = λ s e. record { sheet = editSheet (s .sheet) (s .frame) e; frame = editFrame (s .sheet) (s .frame) e };
+  reply = λ s e. editReply (s .sheet) (s .frame) e;
+}
+
+-- "the same calls made singly up to there"
+abbrev pub singly : List ℕ → List ℕ → List ℕ → Run Logger Box
+singly b frame list = runUntilRefused patchedMachine (record { sheet = b; frame = frame }) (editsOf list)
+
+-- 22, "after 11 and before any edit"
+unfoldable pub editListCode : List ℕ → List ℕ → List ℕ → ℕ
+editListCode b frame list = orElse (check b) (fits b frame (need (isFilled list) 22 0))
+
+-- a reply by its code, the number made and a rectangle; the number's last 32 bits, which are all of it in a list of less than 16 GiB
+abbrev pub batch : ℕ → ℕ → SignedRectangle → Batch
+batch code made a = record { code = code; made = made % 2 ^ 32; left = a .left; top = a .top; width = a .width; height = a .height }
+
+-- "four zeros"
+abbrev pub zeros : SignedRectangle
+zeros = rectangle (pos 0) (pos 0) 0 0
+
+abbrev pub boxArea : Box → SignedRectangle
+boxArea r = rectangle (r .left) (r .top) (r .width) (r .height)
+
+-- "the number made, that refusal or 0, and the smallest rectangle holding the nonempty ones of the edits made, else four zeros": from the
+-- replies to the edits, after so many made that have this rectangle
+unfoldable pub batchFrom : ℕ → SignedRectangle → List Box → Batch
+batchFrom made a [] = batch 0 made a
+batchFrom made a (r ∷ rs) = unlessRefused (r .code) (batchFrom (suc made) (join a (boxArea r)) rs) (batch (r .code) made a)
+
+abbrev pub batchOf : List Box → Batch
+batchOf = batchFrom 0 zeros
+
+unfoldable pub editListReply : List ℕ → List ℕ → List ℕ → Batch
+editListReply b frame list = unlessRefused (editListCode b frame list) (batchOf (singly b frame list .replies)) (batch (editListCode b frame list) 0 zeros)
+
+unfoldable pub editListSheet : List ℕ → List ℕ → List ℕ → List ℕ
+editListSheet b frame list = unlessRefused (editListCode b frame list) (singly b frame list .state .sheet) b
+
+unfoldable pub editListFrame : List ℕ → List ℕ → List ℕ → List ℕ
+editListFrame b frame list = unlessRefused (editListCode b frame list) (singly b frame list .state .frame) frame
 
 -- ---- station_set_text_on_sheet, station_set_place_on_sheet, station_set_style_on_sheet
 

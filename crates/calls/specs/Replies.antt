@@ -4,6 +4,7 @@ use Prim.Native.Nat.{ℕ, _^_, _<_}
 use lib.IntN.{pos}
 use Rattle.geometry.specs.declared.Point.{Point}
 use Rattle.geometry.specs.declared.Rectangle.{Rectangle}
+use Rattle.geometry.specs.Layer.{signed}
 use Rattle.calls.specs.declared.Number.{Number}
 use Rattle.calls.specs.declared.Glyph.{Glyph}
 use Rattle.calls.specs.declared.Position.{Position}
@@ -36,3 +37,8 @@ pub record PointFits (p : Point) : Type 0 where
 pub record CornerFits (a : Rectangle) : Type 0 where
   pub left : a .left < 2 ^ 31
   pub top : a .top < 2 ^ 31
+
+-- a reply by its code and a rectangle
+
+abbrev pub boxOf : ℕ → Rectangle → Box
+boxOf code a = record { code = code; left = signed (a .left); top = signed (a .top); width = a .width; height = a .height }

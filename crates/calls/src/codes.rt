@@ -5,8 +5,7 @@ use sheet::fields::frame_height;
 use sheet::fields::frame_width;
 use sheet::fields::item_count;
 ghost use mathlib.Core.Path.{_≡_};
-ghost use Rattle.sheet.specs.Edits.{newText, newPlace, newStyle};
-ghost use Rattle.calls.specs.Calls.{isThere, fontCode, itemCode, drawCode, drawItemCode, whitespaceCode, editCode, onSheetCode, pageCode};
+ghost use Rattle.calls.specs.Calls.{isThere, fontCode, itemCode, drawCode, drawItemCode, whitespaceCode, editListCode, pageCode};
 
 // 12 for a number that is not below the count.
 fn is_there(n: u32, count: u32) -> u32
@@ -99,68 +98,16 @@ pub fn page_code(sheet: &[u8], frame: &[u8], output: &[u8]) -> u32
     17
 }
 
-// The check, 11, then the refusals of a new text.
-pub fn text_code(sheet: &[u8], frame: &[u8], item: u32, text: &[u8]) -> u32
-    ensures { λ r. ⌜ r ≡ editCode (now (sheet .entry)) (now (frame .entry)) (newText item (now (text .entry))) ⌝ }
+// The check, 11, then 22.
+pub fn list_code(sheet: &[u8], frame: &[u8], list: &[u8]) -> u32
+    ensures { λ r. ⌜ r ≡ editListCode (now (sheet .entry)) (now (frame .entry)) (now (list .entry)) ⌝ }
 {
     let code = frame_code(sheet, frame);
     if code != 0 {
         return code;
     }
-    edits::text_refusal(sheet, item, text)
-}
-
-// The check, 11, then the refusals of a new place.
-pub fn place_code(sheet: &[u8], frame: &[u8], item: u32, x: i32, y: i32) -> u32
-    ensures { λ r. ⌜ r ≡ editCode (now (sheet .entry)) (now (frame .entry)) (newPlace item x y) ⌝ }
-{
-    let code = frame_code(sheet, frame);
-    if code != 0 {
-        return code;
+    if entries::is_filled(list) {
+        return 0;
     }
-    edits::place_refusal(sheet, item, x, y)
-}
-
-// The check, 11, then the refusals of a new style.
-pub fn style_code(sheet: &[u8], frame: &[u8], item: u32, style: &[u8]) -> u32
-    ensures { λ r. ⌜ r ≡ editCode (now (sheet .entry)) (now (frame .entry)) (newStyle item (now (style .entry))) ⌝ }
-{
-    let code = frame_code(sheet, frame);
-    if code != 0 {
-        return code;
-    }
-    edits::style_refusal(sheet, item, style)
-}
-
-// The check, then the refusals of a new text.
-pub fn text_on_sheet_code(sheet: &[u8], item: u32, text: &[u8]) -> u32
-    ensures { λ r. ⌜ r ≡ onSheetCode (now (sheet .entry)) (newText item (now (text .entry))) ⌝ }
-{
-    let code = sheet::check(sheet);
-    if code != 0 {
-        return code;
-    }
-    edits::text_refusal(sheet, item, text)
-}
-
-// The check, then the refusals of a new place.
-pub fn place_on_sheet_code(sheet: &[u8], item: u32, x: i32, y: i32) -> u32
-    ensures { λ r. ⌜ r ≡ onSheetCode (now (sheet .entry)) (newPlace item x y) ⌝ }
-{
-    let code = sheet::check(sheet);
-    if code != 0 {
-        return code;
-    }
-    edits::place_refusal(sheet, item, x, y)
-}
-
-// The check, then the refusals of a new style.
-pub fn style_on_sheet_code(sheet: &[u8], item: u32, style: &[u8]) -> u32
-    ensures { λ r. ⌜ r ≡ onSheetCode (now (sheet .entry)) (newStyle item (now (style .entry))) ⌝ }
-{
-    let code = sheet::check(sheet);
-    if code != 0 {
-        return code;
-    }
-    edits::style_refusal(sheet, item, style)
+    22
 }

@@ -1,4 +1,5 @@
 // What the exported calls answer: their codes and their replies, for a host in C.
+pub mod batches;
 pub mod codes;
 pub mod replies;
 
@@ -38,6 +39,17 @@ pub struct Drawn {
 #[repr(C)]
 pub struct Box {
     pub code: u32,
+    pub left: i32,
+    pub top: i32,
+    pub width: u32,
+    pub height: u32,
+}
+
+// A code, the number of edits made, and a rectangle on the frame.
+#[repr(C)]
+pub struct Batch {
+    pub code: u32,
+    pub made: u32,
     pub left: i32,
     pub top: i32,
     pub width: u32,

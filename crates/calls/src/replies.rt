@@ -11,7 +11,7 @@ ghost use mathlib.Core.Path.{_≡_};
 ghost use Prim.Native.Nat.{_<_, _^_};
 ghost use Rattle.geometry.specs.Layer.{signed};
 ghost use Rattle.calls.specs.Calls.{yesNo, positionReply, drawnReply, boxReply};
-ghost use Rattle.calls.specs.Replies.{refusedNumber, refusedGlyph, refusedPosition, refusedDrawn, refusedBox, PointFits, CornerFits};
+ghost use Rattle.calls.specs.Replies.{refusedNumber, refusedGlyph, refusedPosition, refusedDrawn, refusedBox, PointFits, CornerFits, boxOf};
 
 // The reply of a refused call that gives a number.
 pub fn refused_number(code: u32) -> Number
@@ -74,7 +74,7 @@ pub fn yes_no(yes: bool) -> u32
 }
 
 // A coordinate as a signed number of the frame's columns or rows.
-fn signed(x: u32) -> i32
+pub fn signed(x: u32) -> i32
     requires { ⌜ x < 2 ^ 31 ⌝ }
     ensures { λ r. ⌜ r ≡ signed x ⌝ }
 {
@@ -108,16 +108,24 @@ pub fn drawn_reply(p: Point, replaced: u32) -> Drawn
     }
 }
 
-// The reply of a good call that gives a rectangle.
-pub fn box_reply(a: Rectangle) -> Box
+// The reply of an edit by its code and its rectangle, which is empty, at the frame's corner, for a refused one.
+pub fn edit_reply(code: u32, a: Rectangle) -> Box
     requires { ⌜ CornerFits a ⌝ }
-    ensures { λ r. ⌜ r ≡ boxReply 0 a ⌝ }
+    ensures { λ r. ⌜ r ≡ boxOf code a ⌝ }
 {
     Box {
-        code: 0,
+        code,
         left: signed(a.left),
         top: signed(a.top),
         width: a.width,
         height: a.height,
     }
+}
+
+// The reply of a good call that gives a rectangle.
+pub fn box_reply(a: Rectangle) -> Box
+    requires { ⌜ CornerFits a ⌝ }
+    ensures { λ r. ⌜ r ≡ boxReply 0 a ⌝ }
+{
+    edit_reply(0, a)
 }

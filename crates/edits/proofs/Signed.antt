@@ -2,6 +2,7 @@
 use Prim.Native.Nat.{ℕ, suc, _-_, _≤_, _<_, _^_}
 use mathlib.Core.Path.{_≡_, refl, sym, _∙_, ap}
 use mathlib.Core.Bool.{Bool, true, false, cond}
+use mathlib.Core.List.{List}
 use lib.Dec.{T, ltb}
 use lib.IntN.{ℤ, pos, negsuc, natAbs, _+ℤ_}
 use lib.Signed.{ltZ, nonNeg}
@@ -11,7 +12,8 @@ use mir.Val.{toZ, ofZ, Fits, SFits}
 use mir.Facts.{toZ-ofZ}
 use borrow.Author.Tests.{lt-ltb, le-ltb, ltb-true, ltb-false}
 use Rattle.geometry.specs.Layer.{origin, signed}
-use Rattle.sheet.specs.Edits.{inRange, biased}
+use Rattle.sheet.specs.Fields.{itemAt}
+use Rattle.sheet.specs.Edits.{inRange, biased, newPlace, placeRefusal, refusal, putPlace, edited}
 
 -- the number that the code reads
 abbrev pub read : ℤ → ℤ
@@ -68,3 +70,15 @@ module _ (z : ℤ) (f : SFits w32 z) where
 
     pub sum-is : natAbs (read (read z +ℤ pos origin)) ≡ biased z
     sum-is = ap natAbs sum-read
+
+-- a new place, as the code reads its two numbers
+
+module _ (i : ℕ) (x y : ℤ) (fx : SFits w32 x) (fy : SFits w32 y) where
+  pub new-place-read : newPlace i (read x) (read y) ≡ newPlace i x y
+  new-place-read = rw (toZ-ofZ {z = x} fx, toZ-ofZ {z = y} fy)
+
+  pub place-read : (b : List ℕ) (r : ℕ) → r ≡ placeRefusal b i (read x) (read y) → r ≡ placeRefusal b i x y
+  place-read b r q = q ∙ ap (refusal b) new-place-read
+
+  pub put-place-read : (b s : List ℕ) → s ≡ putPlace b (itemAt b i) (biased (read x)) (biased (read y)) → s ≡ putPlace b (itemAt b i) (biased x) (biased y)
+  put-place-read b s q = q ∙ ap (edited b) new-place-read

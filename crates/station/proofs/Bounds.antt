@@ -6,7 +6,7 @@ use mathlib.Core.Logic.{_⊎_, inl, inr}
 use mathlib.Core.Bool.{Bool, true, false, cond}
 use mathlib.Core.List.{List, [], _∷_, map, List·Memᴰ, List·Memᴰ·head, List·Memᴰ·tail, List·Memᴰ·cases-cons, List·Memᴰ·not-nil}
 use lib.Dec.{ltb, eqb}
-use lib.ListN.{length, getD, replicate, length-replicate}
+use lib.ListN.{length, getD}
 use mir.Syntax.{w8}
 use mir.Val.{Fits}
 use Rattle.geometry.specs.declared.Point.{Point}
@@ -28,13 +28,11 @@ use Rattle.text.proofs.Places.{start-near, height-small}
 use Rattle.text.proofs.Exact.{PlacedAt, placed-at, length-line}
 use Rattle.sheet.specs.Fields.{le16At, coordinate, itemAt, fontAt, fontNumber}
 use Rattle.records.specs.Records.{monoFont, font, monoTextStyle, textStyle, itemOf, item, itemFont}
-use Rattle.sheet.specs.Accepted.{Accepted}
 use Rattle.sheet.specs.Requires.{ItemListed}
 use Rattle.sheet.proofs.Bytes.{le16At-small}
 use Rattle.records.proofs.Readings.{font-limits, font-listed}
-use Rattle.drawing.specs.Drawing.{pixelCount, whitespaceNext, damage}
+use Rattle.drawing.specs.Drawing.{whitespaceNext}
 use Rattle.drawing.proofs.Readings.{item-read}
-use Rattle.drawing.proofs.Painting.{damage-canvas}
 use Rattle.calls.specs.Replies.{PointFits, CornerFits}
 
 length-lines : (s : List ℕ) → length (lines s) ≤ suc (length s)
@@ -147,10 +145,3 @@ module _ (b : List ℕ) (n : ℕ) (bytes : (k : ℕ) → Fits w8 (getD b k 0)) (
   pub whitespace-next-fits : (width : ℕ) (p : Point) → width ≤ 65_535 → p ≡ whitespaceNext (item b n) width → PointFits p
   unfolding whitespaceNext
   whitespace-next-fits width p h e = rw e (record { x = omega (arith, item-limits .near-x); y = omega (arith, item-limits .near-y) })
-
--- ---- the damage rectangle
-
-pub damage-fits : (b b′ : List ℕ) (n : ℕ) (a : Rectangle) → Accepted b → a ≡ damage b b′ n → CornerFits a
-damage-fits b b′ n a g e =
-    let c = damage-canvas b b′ n (replicate (pixelCount b) 0) g (simp length-replicate) in
-    rw e (record { left = omega (arith, c .right, c .width); top = omega (arith, c .foot, c .height) })

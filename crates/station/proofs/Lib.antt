@@ -1,5 +1,6 @@
 pub mod Runs
 pub mod Demand3
+pub mod OneList
 pub mod Unpainted
 pub mod Joining
 pub mod PageOfSheet

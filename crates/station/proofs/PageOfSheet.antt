@@ -8,11 +8,10 @@ use lib.ListN.{length, take, drop}
 use lib.Seq.{take-append-seam}
 use borrow.Author.Tests.{le-leb, eq-eqb}
 use Rattle.sheet.specs.Check.{check}
-use Rattle.sheet.specs.Edits.{Edit}
 use Rattle.drawing.specs.Drawing.{pixelCount, page}
 use Rattle.drawing.proofs.Repainting.{length-page}
 use Rattle.calls.specs.Calls.{numberReply, drawCode, drawFrame, netpbm, pageCode, pageReply, pageOutput}
-use Rattle.station.specs.Machine.{patchedRun, plainRun}
+use Rattle.station.specs.Machine.{plainMachine, EditStep, patchedSteps, singlySteps, patchedRun, plainRun}
 use Rattle.station.proofs.Runs.{draw-zero, draw-page}
 use Rattle.station.proofs.Demand3.{demand-3}
 
@@ -63,10 +62,10 @@ page-of-bytes-only b frame frame′ output output′ c n n′ l l′ =
       same-file = rw (p .reply, q .reply, p .file, q .file);
     }
 
--- ---- after a list of edits, each repainting its rectangle only, the frame holds the page of the bytes that the sheet then has
+-- ---- after a list of steps, each edit repainting its rectangle only, the frame holds the page of the bytes that the sheet then has
 
-pub page-after-edits : (b frame : List ℕ) (es : List Edit) → check b ≡ 0 → length frame ≡ pixelCount b → patchedRun b frame es .frame ≡ page (patchedRun b frame es .sheet)
-page-after-edits b frame es c n = rw (demand-3 b frame frame es c n n .patched-as-plain) as-plain
+pub page-after-steps : (b frame : List ℕ) (is : List EditStep) → check b ≡ 0 → length frame ≡ pixelCount b → patchedRun patchedSteps b frame is .frame ≡ page (patchedRun patchedSteps b frame is .sheet)
+page-after-steps b frame is c n = rw (demand-3 b frame frame is c n n .patched-as-plain) as-plain
   where
-    as-plain : plainRun b es .frame ≡ page (plainRun b es .sheet)
+    as-plain : plainRun (singlySteps plainMachine) b is .frame ≡ page (plainRun (singlySteps plainMachine) b is .sheet)
     as-plain = unfold plainRun in refl

@@ -1,29 +1,17 @@
--- The two runs of demand 3 (docs/DEMANDS.md), made of the exported calls, and the plain machine (docs/SHEET.md, Drawing and edits). Assumes nothing.
+-- The two runs of demand 3 (docs/DEMANDS.md), made of the exported calls, and the plain machine (docs/SHEET.md, Drawing and edits), over steps that are
+-- single edits or lists of them (docs/SHEET.md, A list of edits). Assumes nothing.
 -- To be believed: it says what a sheet means.
 use Prim.Native.Nat.{ℕ}
-use mathlib.Core.List.{List, [], _∷_}
+use mathlib.Core.Bool.{cond}
+use mathlib.Core.List.{List, []}
 use Rattle.characters.specs.Refusal.{unlessRefused}
 use Rattle.sheet.specs.Edits.{Edit, refusal, edited}
+use Rattle.entries.specs.Entries.{isFilled, editsOf}
 use Rattle.drawing.specs.Drawing.{page}
 use Rattle.calls.specs.declared.Box.{Box}
-use Rattle.calls.specs.Calls.{boxReply, editDamage, drawCode, drawFrame, editReply, editSheet, editFrame, onSheetReply, onSheetSheet}
-
--- ---- a machine and its run over a list
-
--- what a machine with states S makes of an input: the state after it, and the reply
-pub record Machine (S Input Reply : Type 0) : Type 0 where
-  pub next : S → Input → S
-  pub reply : S → Input → Reply
-
--- the state after a list, and the reply to each input
-pub record Run (S Reply : Type 0) : Type 0 where
-  pub state : S
-  pub replies : List Reply
-
--- "Each call gets its run's sheet and frame as the call before left them; nobody else writes them"
-unfoldable pub run : {S Input Reply : Type 0} → Machine S Input Reply → S → List Input → Run S Reply
-run m s [] = record { state = s; replies = [] }
-run m s (i ∷ is) = let r = run m (m .next s i) is in record { state = r .state; replies = m .reply s i ∷ r .replies }
+use Rattle.calls.specs.declared.Batch.{Batch}
+use Rattle.calls.specs.Machine.{Machine, Run, run, runUntilRefused}
+use Rattle.calls.specs.Calls.{boxReply, editDamage, drawCode, drawFrame, Logger, patchedMachine, zeros, batch, batchOf, editListReply, editListSheet, editListFrame, onSheetReply, onSheetSheet}
 
 -- ---- a step of the plain machine
 
@@ -35,19 +23,7 @@ plainStep b e = unlessRefused (refusal b e) (edited b e) b
 unfoldable pub plainReply : List ℕ → Edit → Box
 plainReply b e = boxReply (refusal b e) (editDamage b e)
 
--- ---- the three machines
-
--- the state of the patched run
-pub record Logger : Type 0 where
-  pub sheet : List ℕ
-  pub frame : List ℕ
-
--- an edit with a frame: "each accepted edit repaints only its damage rectangle"
-abbrev pub patchedMachine : Machine Logger Edit Box
-patchedMachine = record {
-  next = λ s e. record { sheet = editSheet (s .sheet) (s .frame) e; frame = editFrame (s .sheet) (s .frame) e };
-  reply = λ s e. editReply (s .sheet) (s .frame) e;
-}
+-- ---- the machines for single edits; that with a frame is `patchedMachine`
 
 -- an edit "on the sheet alone"
 abbrev pub freshMachine : Machine (List ℕ) Edit Box
@@ -57,29 +33,70 @@ freshMachine = record { next = onSheetSheet; reply = onSheetReply }
 abbrev pub plainMachine : Machine (List ℕ) Edit Box
 plainMachine = record { next = plainStep; reply = plainReply }
 
+-- ---- steps: "Demand 3's first run may use either"
+
+-- a single edit, or the bytes of a list
+pub data EditStep : Type 0 where
+  single : Edit → EditStep
+  list : List ℕ → EditStep
+
+pub data StepReply : Type 0 where
+  toSingle : Box → StepReply
+  toList : Batch → StepReply
+
+-- the calls with a frame
+abbrev pub patchedNext : Logger → EditStep → Logger
+patchedNext s (single e) = patchedMachine .next s e
+patchedNext s (list l) = record { sheet = editListSheet (s .sheet) (s .frame) l; frame = editListFrame (s .sheet) (s .frame) l }
+
+abbrev pub patchedReply : Logger → EditStep → StepReply
+patchedReply s (single e) = toSingle (patchedMachine .reply s e)
+patchedReply s (list l) = toList (editListReply (s .sheet) (s .frame) l)
+
+abbrev pub patchedSteps : Machine Logger EditStep StepReply
+patchedSteps = record { next = patchedNext; reply = patchedReply }
+
+-- a machine for single edits, given steps: a list "counts as its entries up to there, with the refused one, or as none at 22"
+module _ {S : Type 0} (m : Machine S Edit Box) where
+  abbrev pub counted : S → List ℕ → Run S Box
+  counted s l = cond (isFilled l) (runUntilRefused m s (editsOf l)) (record { state = s; replies = [] })
+
+  abbrev pub singlyNext : S → EditStep → S
+  singlyNext s (single e) = m .next s e
+  singlyNext s (list l) = counted s l .state
+
+  -- "except at 22, its reply is compared with the one so formed from the .. replies to them"; at 22 it is 22 with zeros
+  abbrev pub singlyReply : S → EditStep → StepReply
+  singlyReply s (single e) = toSingle (m .reply s e)
+  singlyReply s (list l) = toList (cond (isFilled l) (batchOf (counted s l .replies)) (batch 22 0 zeros))
+
+  abbrev pub singlySteps : Machine S EditStep StepReply
+  singlySteps = record { next = singlyNext; reply = singlyReply }
+
 -- ---- the runs
 
--- how a run ends: its sheet, its frame, the drawing's code, and the reply to each edit
-pub record Outcome : Type 0 where
+-- how a run ends: its sheet, its frame, the drawing's code, and the reply to each step
+pub record Outcome (Reply : Type 0) : Type 0 where
   pub sheet : List ℕ
   pub frame : List ℕ
   pub drawn : ℕ
-  pub replies : List Box
+  pub replies : List Reply
 
--- "The patched run draws, then makes a list of the three edits"
-unfoldable pub patchedRun : List ℕ → List ℕ → List Edit → Outcome
-patchedRun b frame es =
-    let r = run patchedMachine (record { sheet = b; frame = drawFrame b frame }) es in
-    record { sheet = r .state .sheet; frame = r .state .frame; drawn = drawCode b frame; replies = r .replies }
+module _ {Input Reply : Type 0} where
+  -- "The patched run draws, then makes a list of the three edits"
+  unfoldable pub patchedRun : Machine Logger Input Reply → List ℕ → List ℕ → List Input → Outcome Reply
+  patchedRun m b frame is =
+      let r = run m (record { sheet = b; frame = drawFrame b frame }) is in
+      record { sheet = r .state .sheet; frame = r .state .frame; drawn = drawCode b frame; replies = r .replies }
 
--- "The fresh run makes that list on the sheet alone and draws at the end"
-unfoldable pub freshRun : List ℕ → List ℕ → List Edit → Outcome
-freshRun b frame es =
-    let r = run freshMachine b es in
-    record { sheet = r .state; frame = drawFrame (r .state) frame; drawn = drawCode (r .state) frame; replies = r .replies }
+  -- "The fresh run makes that list on the sheet alone and draws at the end"
+  unfoldable pub freshRun : Machine (List ℕ) Input Reply → List ℕ → List ℕ → List Input → Outcome Reply
+  freshRun m b frame is =
+      let r = run m b is in
+      record { sheet = r .state; frame = drawFrame (r .state) frame; drawn = drawCode (r .state) frame; replies = r .replies }
 
--- "at first the accepted sheet's"; "Its page is the fresh drawing of its bytes"
-unfoldable pub plainRun : List ℕ → List Edit → Outcome
-plainRun b es =
-    let r = run plainMachine b es in
-    record { sheet = r .state; frame = page (r .state); drawn = 0; replies = r .replies }
+  -- "at first the accepted sheet's"; "Its page is the fresh drawing of its bytes"
+  unfoldable pub plainRun : Machine (List ℕ) Input Reply → List ℕ → List Input → Outcome Reply
+  plainRun m b is =
+      let r = run m b is in
+      record { sheet = r .state; frame = page (r .state); drawn = 0; replies = r .replies }

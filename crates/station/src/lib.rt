@@ -1,26 +1,26 @@
 // The exported calls, for a host in C. Each that takes a sheet runs the check first, then its own tests, rising; a refused call has its
-// number for a code and zeros, and leaves sheet, frame and output as they were.
+// number for a code and zeros, and leaves sheet, frame and output as they were. A list of edits that stops at a refused one keeps those before it.
+use batch::make_list;
 use bdf::Outcome;
+pub use calls::Batch;
 pub use calls::Box;
 pub use calls::Drawn;
 pub use calls::Glyph;
 pub use calls::Number;
 pub use calls::Position;
 pub use calls::Step;
+use calls::batches::batch_reply;
+use calls::batches::refused_batch;
 use calls::codes::draw_item_code;
 use calls::codes::font_code;
 use calls::codes::frame_code;
 use calls::codes::item_code;
+use calls::codes::list_code;
 use calls::codes::page_code;
-use calls::codes::place_code;
-use calls::codes::place_on_sheet_code;
-use calls::codes::style_code;
-use calls::codes::style_on_sheet_code;
-use calls::codes::text_code;
-use calls::codes::text_on_sheet_code;
 use calls::codes::whitespace_code;
 use calls::replies::box_reply;
 use calls::replies::drawn_reply;
+use calls::replies::edit_reply;
 use calls::replies::position_reply;
 use calls::replies::refused_box;
 use calls::replies::refused_drawn;
@@ -28,15 +28,12 @@ use calls::replies::refused_glyph;
 use calls::replies::refused_number;
 use calls::replies::refused_position;
 use calls::replies::yes_no;
+use changes::change_place;
+use changes::change_style;
+use changes::change_text;
 use characters::Step as Walked;
 use characters::walker::walk_from;
-use drawing::damage::place_damage;
-use drawing::damage::style_damage;
-use drawing::damage::text_damage;
 use drawing::repaint;
-use edits::put_place;
-use edits::put_style;
-use edits::put_text;
 use page::write_page;
 use records::font_at;
 use records::mapping_bytes;
@@ -47,7 +44,7 @@ ghost use lib.ListN.{length};
 ghost use Rattle.sheet.specs.Check.{check};
 ghost use Rattle.sheet.specs.Edits.{newText, newPlace, newStyle};
 ghost use Rattle.bdf.specs.Font.{written};
-ghost use Rattle.calls.specs.Calls.{indexReply, containsReply, boundingBoxReply, drawItemReply, drawItemFrame, whitespaceReply, whitespaceFrame, drawCode, drawFrame, editReply, editSheet, editFrame, onSheetReply, onSheetSheet, pageReply, pageOutput, readBdfReply, walkReply};
+ghost use Rattle.calls.specs.Calls.{indexReply, containsReply, boundingBoxReply, drawItemReply, drawItemFrame, whitespaceReply, whitespaceFrame, drawCode, drawFrame, editReply, editSheet, editFrame, editListReply, editListSheet, editListFrame, onSheetReply, onSheetSheet, pageReply, pageOutput, readBdfReply, walkReply};
 
 // The number of the sheet's first refusal, or 0 for a sheet that is accepted.
 #[no_mangle]
@@ -163,12 +160,15 @@ pub extern "C" fn station_set_text(
     ensures { λ _. ⌜ now (sheet .exit) ≡ editSheet (now (sheet .entry)) (now (frame .entry)) (newText item (now (text .entry))) ⌝ }
     ensures { λ _. ⌜ now (frame .exit) ≡ editFrame (now (sheet .entry)) (now (frame .entry)) (newText item (now (text .entry))) ⌝ }
 {
-    let code = text_code(&sheet[..], &frame[..], item, text);
+    let code = frame_code(&sheet[..], &frame[..]);
     if code != 0 {
         return refused_box(code);
     }
-    let area = text_damage(&sheet[..], item, text);
-    put_text(sheet, item, text);
+    let change = change_text(sheet, item, text);
+    let area = change.area;
+    if change.code != 0 {
+        return refused_box(change.code);
+    }
     repaint(&sheet[..], frame, area);
     box_reply(area)
 }
@@ -186,12 +186,15 @@ pub extern "C" fn station_set_place(
     ensures { λ _. ⌜ now (sheet .exit) ≡ editSheet (now (sheet .entry)) (now (frame .entry)) (newPlace item x y) ⌝ }
     ensures { λ _. ⌜ now (frame .exit) ≡ editFrame (now (sheet .entry)) (now (frame .entry)) (newPlace item x y) ⌝ }
 {
-    let code = place_code(&sheet[..], &frame[..], item, x, y);
+    let code = frame_code(&sheet[..], &frame[..]);
     if code != 0 {
         return refused_box(code);
     }
-    let area = place_damage(&sheet[..], item, x, y);
-    put_place(sheet, item, x, y);
+    let change = change_place(sheet, item, x, y);
+    let area = change.area;
+    if change.code != 0 {
+        return refused_box(change.code);
+    }
     repaint(&sheet[..], frame, area);
     box_reply(area)
 }
@@ -208,14 +211,33 @@ pub extern "C" fn station_set_style(
     ensures { λ _. ⌜ now (sheet .exit) ≡ editSheet (now (sheet .entry)) (now (frame .entry)) (newStyle item (now (style .entry))) ⌝ }
     ensures { λ _. ⌜ now (frame .exit) ≡ editFrame (now (sheet .entry)) (now (frame .entry)) (newStyle item (now (style .entry))) ⌝ }
 {
-    let code = style_code(&sheet[..], &frame[..], item, style);
+    let code = frame_code(&sheet[..], &frame[..]);
     if code != 0 {
         return refused_box(code);
     }
-    let area = style_damage(&sheet[..], item, style);
-    put_style(sheet, item, style);
+    let change = change_style(sheet, item, style);
+    let area = change.area;
+    if change.code != 0 {
+        return refused_box(change.code);
+    }
     repaint(&sheet[..], frame, area);
     box_reply(area)
+}
+
+// Makes a list of edits in order, up to the first that is refused; gives how many were made, and the smallest rectangle that holds those that they
+// repainted.
+#[no_mangle]
+pub extern "C" fn station_edit_list(sheet: &mut [u8], frame: &mut [u8], list: &[u8]) -> Batch
+    ensures { λ r. ⌜ r ≡ editListReply (now (sheet .entry)) (now (frame .entry)) (now (list .entry)) ⌝ }
+    ensures { λ _. ⌜ now (sheet .exit) ≡ editListSheet (now (sheet .entry)) (now (frame .entry)) (now (list .entry)) ⌝ }
+    ensures { λ _. ⌜ now (frame .exit) ≡ editListFrame (now (sheet .entry)) (now (frame .entry)) (now (list .entry)) ⌝ }
+{
+    let code = list_code(&sheet[..], &frame[..], list);
+    if code != 0 {
+        return refused_batch(code);
+    }
+    let made = make_list(sheet, frame, list);
+    batch_reply(made.code, made.made, made.area)
 }
 
 // Gives an item a new text on the sheet alone; gives the damage rectangle.
@@ -224,13 +246,13 @@ pub extern "C" fn station_set_text_on_sheet(sheet: &mut [u8], item: u32, text: &
     ensures { λ r. ⌜ r ≡ onSheetReply (now (sheet .entry)) (newText item (now (text .entry))) ⌝ }
     ensures { λ _. ⌜ now (sheet .exit) ≡ onSheetSheet (now (sheet .entry)) (newText item (now (text .entry))) ⌝ }
 {
-    let code = text_on_sheet_code(&sheet[..], item, text);
+    let code = sheet::check(&sheet[..]);
     if code != 0 {
         return refused_box(code);
     }
-    let area = text_damage(&sheet[..], item, text);
-    put_text(sheet, item, text);
-    box_reply(area)
+    let stored = change_text(sheet, item, text);
+    let area = stored.area;
+    edit_reply(stored.code, area)
 }
 
 // Gives an item a new place on the sheet alone; gives the damage rectangle.
@@ -239,13 +261,13 @@ pub extern "C" fn station_set_place_on_sheet(sheet: &mut [u8], item: u32, x: i32
     ensures { λ r. ⌜ r ≡ onSheetReply (now (sheet .entry)) (newPlace item x y) ⌝ }
     ensures { λ _. ⌜ now (sheet .exit) ≡ onSheetSheet (now (sheet .entry)) (newPlace item x y) ⌝ }
 {
-    let code = place_on_sheet_code(&sheet[..], item, x, y);
+    let code = sheet::check(&sheet[..]);
     if code != 0 {
         return refused_box(code);
     }
-    let area = place_damage(&sheet[..], item, x, y);
-    put_place(sheet, item, x, y);
-    box_reply(area)
+    let stored = change_place(sheet, item, x, y);
+    let area = stored.area;
+    edit_reply(stored.code, area)
 }
 
 // Gives an item a new style on the sheet alone; gives the damage rectangle.
@@ -254,13 +276,13 @@ pub extern "C" fn station_set_style_on_sheet(sheet: &mut [u8], item: u32, style:
     ensures { λ r. ⌜ r ≡ onSheetReply (now (sheet .entry)) (newStyle item (now (style .entry))) ⌝ }
     ensures { λ _. ⌜ now (sheet .exit) ≡ onSheetSheet (now (sheet .entry)) (newStyle item (now (style .entry))) ⌝ }
 {
-    let code = style_on_sheet_code(&sheet[..], item, style);
+    let code = sheet::check(&sheet[..]);
     if code != 0 {
         return refused_box(code);
     }
-    let area = style_damage(&sheet[..], item, style);
-    put_style(sheet, item, style);
-    box_reply(area)
+    let stored = change_style(sheet, item, style);
+    let area = stored.area;
+    edit_reply(stored.code, area)
 }
 
 // The frame as a Netpbm file, stored at the head of the output, and its length.

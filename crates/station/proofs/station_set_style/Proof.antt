@@ -1,14 +1,14 @@
--- Refused with the call's code; else the edit is allowed, its rectangle is found on the sheet as it was, and repainted.
+-- Refused before the edit is asked, or by the edit; else it is stored, and its rectangle repainted. Assumes nothing.
 use borrow.Author.Needs.{needs}
-use Rattle.calls.specs.Calls.{editReply, editSheet, editFrame}
-use Rattle.calls.proofs.Refusals.{edit-allowed}
-use Rattle.station.proofs.Calls.{kept, done, box-refused, box-done}
-use Rattle.station.proofs.EditCalls.{edit-damage-fits, edited-accepted, edited-canvas, repainted-as}
+use Rattle.calls.specs.Calls.{editReply}
+use Rattle.calls.proofs.Refusals.{draw-accepted}
+use Rattle.station.proofs.Calls.{box-refused}
+use Rattle.station.proofs.EditCalls.{edit-refused, edit-sheet-kept, edit-frame-kept, edit-sheet-left, edit-told, edit-frame-told, edit-replied, edit-frame-left, edit-corner, edit-accepted, edit-canvas}
 use Rattle.station.proofs.station_set_style.Statement.{statement}
 use Rattle.station.proofs.station_set_style.Tie as tie
 
-style-code-requires : tie.Need-style-code-requires
-style-code-requires c κs = search needs
+frame-code-requires : tie.Need-frame-code-requires
+frame-code-requires c κs = search needs
 
 refused-box-requires : tie.Need-refused-box-requires
 refused-box-requires c κs = search needs
@@ -20,20 +20,14 @@ same-length-2 : tie.Need-same-length-2
 same-length-2 c = search needs
 
 returns : tie.Need-returns
-unfolding editReply editSheet editFrame
-returns c = (search box-refused, (search kept, search kept))
+unfolding editReply
+returns c = (search (box-refused, edit-refused), (search edit-sheet-kept, search edit-frame-kept))
 
-style-damage-requires : tie.Need-style-damage-requires
-style-damage-requires c κs = search edit-allowed
+change-style-requires : tie.Need-change-style-requires
+change-style-requires c κs = search draw-accepted
 
-put-style-requires : tie.Need-put-style-requires
-put-style-requires c κs = search edit-allowed
-
-repaint-requires : tie.Need-repaint-requires
-repaint-requires c κs = (search edited-accepted, search edited-canvas)
-
-box-reply-requires : tie.Need-box-reply-requires
-box-reply-requires c κs = search edit-damage-fits
+refused-box-requires-2 : tie.Need-refused-box-requires-2
+refused-box-requires-2 c κs = search needs
 
 same-length-3 : tie.Need-same-length-3
 same-length-3 c = search needs
@@ -42,22 +36,39 @@ same-length-4 : tie.Need-same-length-4
 same-length-4 c = search needs
 
 returns-2 : tie.Need-returns-2
-unfolding editReply editSheet editFrame
-returns-2 c = (search box-done, (search done, search (done, repainted-as)))
+returns-2 c = (search edit-told, (search edit-sheet-left, search edit-frame-told))
+
+repaint-requires : tie.Need-repaint-requires
+repaint-requires c κs = (search edit-accepted, search edit-canvas)
+
+box-reply-requires : tie.Need-box-reply-requires
+box-reply-requires c κs = search edit-corner
+
+same-length-5 : tie.Need-same-length-5
+same-length-5 c = search needs
+
+same-length-6 : tie.Need-same-length-6
+same-length-6 c = search needs
+
+returns-3 : tie.Need-returns-3
+returns-3 c = (search edit-replied, (search edit-sheet-left, search edit-frame-left))
 
 pub station-set-style-spec : {M : Type 1} → statement M
 station-set-style-spec =
     tie.close
     (tie.spec
-    style-code-requires
+    frame-code-requires
     refused-box-requires
     same-length
     same-length-2
     returns
-    style-damage-requires
-    put-style-requires
-    repaint-requires
-    box-reply-requires
+    change-style-requires
+    refused-box-requires-2
     same-length-3
     same-length-4
-    returns-2)
+    returns-2
+    repaint-requires
+    box-reply-requires
+    same-length-5
+    same-length-6
+    returns-3)
