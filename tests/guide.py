@@ -37,7 +37,7 @@ def test_guide(folder):
             said = re.sub(r"[ \t]+$", "", run.stdout.decode("utf-8"), flags=re.M)
             same(f"$ {command}", said.rstrip("\n"), expected.rstrip("\n"))
             commands += 1
-    names = ("new", "show", "explain", "describe", "diff", "view")
+    names = ("new", "show", "explain", "describe", "diff", "set", "edits", "view")
     text = (ROOT / "tools/README.md").read_text(encoding="utf-8")
     same("commands without an example", [name for name in names if f"$ tools/sheet {name} " not in text], [])
     return f"{commands} commands, {files} files"

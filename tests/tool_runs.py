@@ -1,4 +1,4 @@
-"""What the tests of tools/sheet share: a run of the tool, a comparison, and the run of all tests of a module."""
+"""What the tests of tools/sheet share: a run of the tool or of a program, a comparison, and the run of all tests of a module."""
 import collections
 import contextlib
 import io
@@ -37,11 +37,23 @@ def sheet_tool(*words):
     return Run(status, out.buffer.getvalue().decode("utf-8"), err.getvalue())
 
 
+def said_by(name, given):
+    """What a program writes to standard output and to standard error."""
+    run = subprocess.run([ROOT / "target/bin" / name], input=given, capture_output=True, check=False)
+    return run.stdout, run.stderr.decode("utf-8")
+
+
+def said_into_full(name, path):
+    """What a program writes to standard error if standard output takes nothing."""
+    with open(path, "rb") as given, open("/dev/full", "wb") as full:
+        return subprocess.run([ROOT / "target/bin" / name], stdin=given, stdout=full, stderr=subprocess.PIPE, check=False).stderr.decode("utf-8")
+
+
 def copy_programs(folder):
-    """Copies station_page, read_bdf and station_items; where the last is not built, the program of tests/host/items.c, which measures as it does."""
+    """Copies station_page, read_bdf, station_edits and station_items; where the last is not built, the program of tests/host/items.c, which measures as it does."""
     folder.mkdir(parents=True, exist_ok=True)
     built = ROOT / "target/bin/station_items"
-    for name in ("station_page", "read_bdf"):
+    for name in ("station_page", "read_bdf", "station_edits"):
         shutil.copy(ROOT / "target/bin" / name, folder / name)
     shutil.copy(built if built.is_file() else sys.argv[2], folder / "station_items")
 

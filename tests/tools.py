@@ -15,10 +15,11 @@ import subprocess
 import sys
 import zlib
 
-from tool_runs import ROOT, SAMPLES, Run, expect_error, programs_of, run_tests, same, sheet_program, sheet_tool
+from tool_runs import ROOT, SAMPLES, Run, expect_error, programs_of, run_tests, said_by, said_into_full, same, sheet_program, sheet_tool
 
 import bdf_fonts
 import described
+import edited
 import explained
 import gate
 import guide
@@ -174,18 +175,6 @@ def test_errors_of_station_items(_):
     same("measured items", said_by("station_items", good.read_bytes())[1], "")
     same("items into a full output: an error is said", said_into_full("station_items", good) != "", True)
     return None
-
-
-def said_by(name, sheet):
-    """What a program writes to standard output and to standard error."""
-    run = subprocess.run([ROOT / "target/bin" / name], input=sheet, capture_output=True, check=False)
-    return run.stdout, run.stderr.decode("utf-8")
-
-
-def said_into_full(name, path):
-    """What a program writes to standard error if standard output takes nothing."""
-    with open(path, "rb") as sheet, open("/dev/full", "wb") as full:
-        return subprocess.run([ROOT / "target/bin" / name], stdin=sheet, stdout=full, stderr=subprocess.PIPE, check=False).stderr.decode("utf-8")
 
 
 def test_show_refused(folder):
@@ -379,7 +368,7 @@ def test_refusals(_):
     named = [(int(n), name) for name, n in re.findall(r"^    STATION_REFUSED_(\w+) = (\d+),?$", header, re.M)]
     documented = [(int(n), name) for n, name in re.findall(r"^\| (\d+) \| `(\w+)` \|", table, re.M)]
     same("names of docs/REFUSALS.md", documented, named)
-    same("numbers", [n for n, _ in named], list(range(1, 22)))
+    same("numbers", [n for n, _ in named], list(range(1, 23)))
 
 
 # ---- the header's numbers
@@ -423,7 +412,7 @@ def main():
     if len(sys.argv) != 3:
         sys.exit("usage: python3 tests/tools.py CHECK ITEMS")
     signal.signal(signal.SIGINT, signal.default_int_handler)  # a shell has it ignored in what it runs beside itself
-    modules = (explained, sys.modules[__name__], described, bdf_fonts, wrong_inputs, guide, gate, must_fail)
+    modules = (explained, sys.modules[__name__], described, edited, bdf_fonts, wrong_inputs, guide, gate, must_fail)
     return 1 if sum(run_tests(module) for module in modules) else 0
 
 

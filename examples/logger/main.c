@@ -1,6 +1,6 @@
 /*
- * A logger's main: checks a sheet, draws its page, stores new readings, tells how many of their characters the font lacks and which rectangle
- * would be radioed, and writes the page.
+ * A logger's main: checks a sheet, draws its page, stores a new stage and tells how many of its characters the font lacks, makes the edits of a
+ * reading in one call, radios a rectangle after each, and writes the page.
  *
  *     logger SHEET PAGE
  *
@@ -13,11 +13,12 @@
 #include <stdio.h>
 #include <string.h>
 
-#if STATION_VERSION_MAJOR != 2
-#error "this logger was written for version 2 of the library"
+#if STATION_VERSION_MAJOR != 2 || STATION_VERSION_MINOR < 2
+#error "this logger was written for version 2.2 of the library"
 #endif
 
-enum { PIXELS = HYDROGRAPH_WIDTH * HYDROGRAPH_HEIGHT };
+/* The list of edits has room for a text of each item. */
+enum { PIXELS = HYDROGRAPH_WIDTH * HYDROGRAPH_HEIGHT, MOST_LIST = HYDROGRAPH_ITEMS * (STATION_ENTRY_HEAD + STATION_MOST_SLOT) };
 
 static uint8_t sheet[STATION_MOST_SHEET + 1];
 static size_t length;
@@ -25,6 +26,8 @@ static uint8_t frame[PIXELS];
 static uint8_t spare[PIXELS];
 static uint8_t ashore[PIXELS];
 static uint8_t page[STATION_MOST_PAGE];
+static uint8_t list[MOST_LIST];
+static size_t list_length;
 
 /* A number of two bytes, low byte first. */
 static size_t stored_number(size_t at)
@@ -67,13 +70,15 @@ static int is_known_sheet(void)
            stored_number(STATION_AT_HEIGHT) == HYDROGRAPH_HEIGHT && stored_number(STATION_AT_ITEMS) == HYDROGRAPH_ITEMS;
 }
 
-/* Stands in for the radio: the page ashore gets the greys of the rectangle, and no others. */
-static void send_rectangle(station_box area)
+/* Stands in for the radio: the page ashore gets the greys of the rectangle, and no others, and is compared with the logger's. */
+static void send_rectangle(int32_t left, int32_t top, uint32_t width, uint32_t height)
 {
-    for (uint32_t row = 0; row < area.height; row++) {
-        size_t at = ((size_t)area.top + row) * HYDROGRAPH_WIDTH + (size_t)area.left;
-        memcpy(ashore + at, frame + at, area.width);
+    for (uint32_t row = 0; row < height; row++) {
+        size_t at = ((size_t)top + row) * HYDROGRAPH_WIDTH + (size_t)left;
+        memcpy(ashore + at, frame + at, width);
     }
+    printf("radio: left %d, top %d, width %u, height %u: %u greys of %u; the page ashore is %s\n", (int)left, (int)top, (unsigned)width,
+           (unsigned)height, (unsigned)(width * height), (unsigned)PIXELS, memcmp(ashore, frame, sizeof frame) == 0 ? "the same" : "another");
 }
 
 /* The number of a text's characters; for an ill-formed text, of those before the fault. */
@@ -91,27 +96,123 @@ static unsigned count_characters(const char *text)
 }
 
 /*
- * Gives the stage's item a new text, radios its rectangle, and says what the calls replied. The item is drawn by itself on a spare frame, which
- * tells how many of its characters the font lacks; the page keeps its greys. Gives the first code that is no STATION_OK.
+ * Gives the stage's item a new text by a call of its own, radios its rectangle, and says what the calls replied. The item is drawn by itself
+ * on a spare frame, which tells how many of its characters the font lacks; the page keeps its greys. Gives the first code that is no
+ * STATION_OK.
  */
 static uint32_t set_stage(const char *text)
 {
     station_box area = station_set_text(sheet, length, frame, PIXELS, HYDROGRAPH_ITEM_STAGE, (const uint8_t *)text, strlen(text));
     if (area.code != STATION_OK) {
-        printf("new reading of %u bytes in a slot of %u: refused %u\n", (unsigned)strlen(text), (unsigned)HYDROGRAPH_SLOT_STAGE,
+        printf("new stage of %u bytes in a slot of %u: refused %u\n", (unsigned)strlen(text), (unsigned)HYDROGRAPH_SLOT_STAGE,
                (unsigned)area.code);
         return area.code;
     }
     station_drawn drawn = station_draw_item(sheet, length, spare, PIXELS, HYDROGRAPH_ITEM_STAGE);
     if (drawn.code != STATION_OK) {
-        say_refused("new reading, drawn by itself", drawn.code);
+        say_refused("new stage, drawn by itself", drawn.code);
         return drawn.code;
     }
-    printf("new reading '%s', %u characters of which the font lacks %u: left %d, top %d, width %u, height %u\n", text, count_characters(text),
-           (unsigned)drawn.replaced, (int)area.left, (int)area.top, (unsigned)area.width, (unsigned)area.height);
-    send_rectangle(area);
-    printf("radio: %u greys of %u\n", (unsigned)(area.width * area.height), (unsigned)PIXELS);
+    printf("new stage '%s': %u characters, of which the font lacks %u\n", text, count_characters(text), (unsigned)drawn.replaced);
+    send_rectangle(area.left, area.top, area.width, area.height);
     return STATION_OK;
+}
+
+/* Adds an edit to the list: kind, item, the data's length with its low byte first, and the data. Gives whether the list has room for it. */
+static int add_edit(uint8_t kind, uint8_t item, const uint8_t *data, size_t data_length)
+{
+    if (sizeof list - list_length < STATION_ENTRY_HEAD + data_length) {
+        printf("list: no room for %u bytes\n", (unsigned)data_length);
+        return 0;
+    }
+    uint8_t *entry = list + list_length;
+    entry[0] = kind;
+    entry[1] = item;
+    entry[2] = (uint8_t)(data_length & 255);
+    entry[3] = (uint8_t)(data_length >> 8);
+    memcpy(entry + STATION_ENTRY_HEAD, data, data_length);
+    list_length += STATION_ENTRY_HEAD + data_length;
+    return 1;
+}
+
+static int add_text(uint8_t item, const char *text)
+{
+    return add_edit(STATION_EDIT_TEXT, item, (const uint8_t *)text, strlen(text));
+}
+
+/* The data of a place are x and y, four bytes each, low byte first. */
+static int add_place(uint8_t item, int32_t x, int32_t y)
+{
+    uint8_t data[8];
+    for (int k = 0; k < 4; k++) {
+        data[k] = (uint8_t)((uint32_t)x >> (8 * k) & 255);
+        data[4 + k] = (uint8_t)((uint32_t)y >> (8 * k) & 255);
+    }
+    return add_edit(STATION_EDIT_PLACE, item, data, sizeof data);
+}
+
+/*
+ * Makes the edits of the list in one call, says what it replied, and radios the one rectangle that holds those of the edits made. These stand also
+ * if a later edit is refused, so the rectangle is radioed then too. The list is empty afterwards. Gives the code.
+ */
+static uint32_t make_list(const char *what)
+{
+    station_batch made = station_edit_list(sheet, length, frame, PIXELS, list, list_length);
+    list_length = 0;
+    printf("%s: edits made %u, code %u\n", what, (unsigned)made.made, (unsigned)made.code);
+    send_rectangle(made.left, made.top, made.width, made.height);
+    return made.code;
+}
+
+/* Says the text that the sheet has for an item. */
+static void say_text(const char *what, size_t item)
+{
+    size_t record = STATION_ITEM_RECORD(HYDROGRAPH_FONTS, item);
+    size_t slot = stored_number(record + STATION_ITEM_AT_SLOT) | stored_number(record + STATION_ITEM_AT_SLOT + 2) << 16;
+    printf("%s: '%.*s'\n", what, (int)stored_number(record + STATION_ITEM_AT_TEXT_LENGTH), (const char *)(sheet + slot));
+}
+
+/* Stores a new stage, and then a reading and its time, and radios each. Gives whether every call was good. */
+static int make_readings(void)
+{
+    /* The font lacks the first sign of this stage, and has a hyphen in its place, which reads as a minus sign. */
+    if (set_stage("\xE2\x89\x88" "2.35 m") != STATION_OK) {
+        return 0;
+    }
+
+    /* A reading changes four lines that lie close together: one call, for which the sheet is checked once, and one rectangle. */
+    if (!add_text(HYDROGRAPH_ITEM_STAGE, "2.347 m") || !add_text(HYDROGRAPH_ITEM_DISCHARGE, "43.2 m\xC2\xB3/s") ||
+        !add_text(HYDROGRAPH_ITEM_TREND, "\xE2\x86\x91 0.22 m in 6 h") || !add_text(HYDROGRAPH_ITEM_RAIN, "18.9 mm in 24 h") ||
+        make_list("reading") != STATION_OK) {
+        return 0;
+    }
+
+    /* The time stands at the page's foot. It has a list of its own: one rectangle for both would hold nearly the whole page. */
+    return add_text(HYDROGRAPH_ITEM_WEATHER, "Air 7.3 \xC2\xB0" "C  Water 5.1 \xC2\xB0" "C  Battery 12.6 V\nDrawn 2031-03-17 00:15 UTC") &&
+           make_list("time of the reading") == STATION_OK;
+}
+
+/* Tries edits that are refused. Gives whether each had its refusal. */
+static int try_refused(void)
+{
+    static const uint8_t underlined[STATION_STYLE_LENGTH] = {1, 16, 0, 0, 1, 0, 0, 0};
+    static const char cut[] = "2.3 \xE2\x86";
+
+    /* A text that is longer than the slot, and one that is cut in a character. Sheet and frame stay as they are. */
+    if (set_stage("sensor fault") != STATION_REFUSED_NEW_TEXT_TOO_LONG || set_stage(cut) != STATION_REFUSED_NEW_TEXT_ILL_FORMED) {
+        return 0;
+    }
+    printf("the stage that was cut: %u characters before the fault\n", count_characters(cut));
+
+    /* A list that stops midway, at a place that no item may have: the new stage and the alarm's style stand, the rain is not changed. */
+    if (!add_text(HYDROGRAPH_ITEM_STAGE, "2.362 m") || !add_edit(STATION_EDIT_STYLE, HYDROGRAPH_ITEM_ALARM, underlined, sizeof underlined) ||
+        !add_place(HYDROGRAPH_ITEM_ALARM, 34, 40000) || !add_text(HYDROGRAPH_ITEM_RAIN, "19.1 mm in 24 h") ||
+        make_list("reading with a wrong place") != STATION_REFUSED_PLACE) {
+        return 0;
+    }
+    say_text("stage", HYDROGRAPH_ITEM_STAGE);
+    say_text("rain", HYDROGRAPH_ITEM_RAIN);
+    return 1;
 }
 
 int main(int count, char **arguments)
@@ -142,27 +243,10 @@ int main(int count, char **arguments)
     printf("page: %u by %u, drawn\n", (unsigned)HYDROGRAPH_WIDTH, (unsigned)HYDROGRAPH_HEIGHT);
     memcpy(ashore, frame, sizeof frame);
 
-    /* The font lacks the first sign of this reading, and has a hyphen in its place, which reads as a minus sign. The next reading is good. */
-    code = set_stage("\xE2\x89\x88" "2.35 m");
-    if (code != STATION_OK) {
+    if (!make_readings() || !try_refused()) {
+        printf("a reply that was not expected\n");
         return 1;
     }
-    code = set_stage("2.347 m");
-    if (code != STATION_OK) {
-        return 1;
-    }
-    printf("page ashore: %s\n", memcmp(ashore, frame, sizeof frame) == 0 ? "the same" : "another");
-
-    /* Two texts that are refused: one is longer than the slot, one is cut in a character. Sheet and frame stay as they are. */
-    code = set_stage("sensor fault");
-    if (code != STATION_REFUSED_NEW_TEXT_TOO_LONG) {
-        return say_refused("a long reading", code);
-    }
-    code = set_stage("2.3 \xE2\x86");
-    if (code != STATION_REFUSED_NEW_TEXT_ILL_FORMED) {
-        return say_refused("an ill-formed reading", code);
-    }
-    printf("the reading that was cut: %u characters before the fault\n", count_characters("2.3 \xE2\x86"));
 
     station_number written = station_write_page(sheet, length, frame, PIXELS, page, sizeof page);
     if (written.code != STATION_OK) {

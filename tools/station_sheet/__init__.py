@@ -1,4 +1,5 @@
-"""The parts of tools/sheet: building, printing, explaining, describing, comparing and viewing station sheets."""
+"""The parts of tools/sheet: building, printing, explaining, describing, comparing, editing and viewing station sheets."""
+import contextlib
 
 
 class Problem(Exception):
@@ -7,6 +8,15 @@ class Problem(Exception):
     def __init__(self, line, status=1):
         super().__init__(line)
         self.status = status
+
+
+@contextlib.contextmanager
+def named(name):
+    """Puts a file's name before what is wrong with its contents."""
+    try:
+        yield
+    except Problem as problem:
+        raise Problem(f"{name}: {problem}", problem.status) from None
 
 
 def one_line(text):

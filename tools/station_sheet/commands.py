@@ -4,22 +4,24 @@ import os
 import re
 import sys
 
-from . import Problem, one_line
+from . import Problem, named, one_line
+from .bdf import plural
 from .c_header import c_header
 from .describe import describe
 from .description import read_description, sheet_of
 from .difference import differences
+from .edit_list import TEXT, edit_of_words, item_names, make_edits, read_list
 from .explain import explain
-from .files import Files, blamed, input_name, is_standard_output, said, write_standard_output
-from .layout import MOST_BYTES, header_of
+from .files import Files, blamed, input_name, is_standard_output, place_of, said, write_standard_output
+from .layout import MOST_BYTES, header_of, item_of
 from .picture import MOST_SCALE, png, read_page
 from .programs import drawn_page, is_there, measured_items
-from .show import show
+from .show import show, unlisted_lines
 from .warning import warnings
 
 MOST_PAGE = 1 << 20
 MOST_LINE = 600
-STATUSES = """exit status: 0 done, or the sheet is accepted, or two sheets are the same; 1 the sheet or the description is wrong, or two sheets differ;
+STATUSES = """exit status: 0 done, or the sheet is accepted, or two sheets are the same; 1 the sheet, the description or an edit is wrong, or two sheets differ;
 2 a wrong command, or a file that cannot be read or written, or for 'diff' a sheet that is refused. '-' in the place of a file is standard
 input or output. docs/REFUSALS.md says what to do about each refusal."""
 
@@ -50,16 +52,14 @@ def accepted_sheet(files, path, status=1):
 def run_new(arguments, files):
     description = read_description(files, arguments.description)
     name = input_name(arguments.description)
-    try:
+    with named(name):
         sheet = sheet_of(description)
         outputs = [(arguments.sheet, sheet)]
         if arguments.header is not None:
             outputs.append((arguments.header, c_header(description, sheet, arguments.header, arguments.description).encode("utf-8")))
-    except Problem as problem:
-        raise Problem(f"{name}: {problem}", problem.status) from None
     if not any(is_standard_output(path) for path, _ in outputs):
-        named = [f"item {number}: {item.name}" for number, item in enumerate(description.items) if item.name]
-        outputs.append(("-", said([f"{arguments.sheet}: {len(sheet)} bytes", *named])))
+        numbers = [f"item {number}: {item.name}" for number, item in enumerate(description.items) if item.name]
+        outputs.append(("-", said([f"{arguments.sheet}: {len(sheet)} bytes", *numbers])))
     files.prepare(outputs)
     for line in warnings(description):
         note(f"warning: {name}: {line}")
@@ -99,6 +99,41 @@ def run_diff(arguments, files):
     return 1 if lines else 0
 
 
+def run_set(arguments, files):
+    sheet = sheet_to_edit(files, arguments.sheet)
+    edit = edit_of_words(arguments.item, arguments.edit, item_names(files, arguments.names, sheet))
+    write_edited(files, arguments.sheet, sheet, [edit], *make_edits(sheet, [edit]))
+
+
+def run_edits(arguments, files):
+    sheet = sheet_to_edit(files, arguments.sheet)
+    edits = read_list(files, arguments.list, item_names(files, arguments.names, sheet))
+    with named(input_name(arguments.list)):
+        made = make_edits(sheet, edits)
+    write_edited(files, arguments.sheet, sheet, edits, *made)
+
+
+def sheet_to_edit(files, path):
+    """The bytes of a sheet that is accepted, from a file of which another can take the place, or from standard input."""
+    sheet = accepted_sheet(files, path)
+    if path != "-" and place_of(path) is None:
+        raise Problem(f"{path}: no file, and so no sheet that can be edited", 2)
+    return sheet
+
+
+def write_edited(files, path, sheet, edits, reply, edited):
+    """Has an edited sheet take the place of the sheet, and says what the edits made of it, and the rectangle."""
+    outputs = [(path, edited)]
+    if not is_standard_output(path):
+        area = f"rectangle at ({reply.left}, {reply.top}), {reply.width} by {reply.height}" if reply.width else "nothing to repaint"
+        outputs.append(("-", said([*differences(sheet, edited), f"{path}: {plural(reply.made, 'edit')} made, {area}"])))
+    files.prepare(outputs, edited=path)
+    for item in sorted({edit.item for edit in edits if edit.kind == TEXT}):
+        for line in unlisted_lines(edited, item_of(edited, item)):
+            note(f"warning: {input_name(path)}: item {item}: {line.strip()}")
+    files.finish()
+
+
 def run_view(arguments, files):
     sheet = accepted_sheet(files, arguments.sheet)
     if arguments.page is None:
@@ -129,7 +164,7 @@ class Parser(argparse.ArgumentParser):
 
 
 def parser():
-    top = Parser(prog="sheet", description="Builds, prints, explains, describes, compares and views station sheets.", epilog=STATUSES)
+    top = Parser(prog="sheet", description="Builds, prints, explains, describes, compares, edits and views station sheets.", epilog=STATUSES)
     commands = top.add_subparsers(dest="command", required=True, metavar="COMMAND")
 
     def command(name, run, text, *words):
@@ -146,6 +181,11 @@ def parser():
     back = command("describe", run_describe, "write the description of a sheet, from which 'new' builds the same bytes", "SHEET")
     back.add_argument("description", metavar="DESCRIPTION.toml", nargs="?", default="-")
     command("diff", run_diff, "print what differs between two sheets, by font, item and field", "FIRST", "SECOND")
+    one = command("set", run_set, "change an item of a sheet: its text, place or style", "SHEET", "ITEM")
+    one.add_argument("edit", metavar="EDIT", nargs="+", help="text TEXT, place X Y, or style KEY=VALUE ..; a TEXT that begins with '-' stands behind '--'")
+    many = command("edits", run_edits, "make a list of edits in TOML on a sheet, or none of them", "SHEET", "LIST.toml")
+    for added in (one, many):
+        added.add_argument("--names", metavar="DESCRIPTION.toml", help="the sheet's description, so that an item may go by its name")
     view = command("view", run_view, "write a PNG of a sheet's page, drawn by target/bin/station_page", "SHEET", "PNG")
     view.add_argument("--page", metavar="PAGE.pgm", help="take this page of the sheet, and draw nothing")
     view.add_argument("--scale", metavar="N", type=scale, default=1, help=f"make each pixel N by N, 1 to {MOST_SCALE}")

@@ -4,7 +4,7 @@ import tomllib
 from collections import namedtuple
 from pathlib import Path
 
-from . import Problem
+from . import Problem, named
 from .bdf import read_bdf
 from .bitmap import bits, parse_font
 from .explain import explain, header_refusals
@@ -63,13 +63,13 @@ class Table:
             raise self.problem(key, f"'{key}' must be a whole number from {low} to {high}")
         return value
 
-    def pair(self, key, high, default=None):
+    def pair(self, key, high, default=None, low=0):
         value = self.entries.get(key, default)
         if value is None:
             raise self.problem(key, f"'{key}' is missing")
         if not isinstance(value, (list, tuple)) or len(value) != 2:
             raise self.problem(key, f"'{key}' is a list of two numbers")
-        return tuple(self.whole(key, part, 0, high) for part in value)
+        return tuple(self.whole(key, part, low, high) for part in value)
 
     def string(self, key, default=None):
         value = self.entries.get(key, default)
@@ -94,27 +94,31 @@ class Table:
         return [Table(entries, f"{name} {number}", keys, self.lines, (key, number)) for number, entries in enumerate(value)]
 
 
-def read_description(files, path):
-    """The parts of a description."""
+def read_toml(files, path, kind, keys):
+    """The table of a whole file in TOML, whose kind messages name."""
     name = input_name(path)
     text = files.read_text(path)
     if (line := long_key(text)) is not None:
-        raise Problem(f"{name}: line {line}: no description: a key has more than {MOST_PARTS} parts")
+        raise Problem(f"{name}: line {line}: no {kind}: a key has more than {MOST_PARTS} parts")
     try:
         entries = tomllib.loads(text)
     except tomllib.TOMLDecodeError as error:
         raise Problem(f"{name}: no TOML: {error}") from None
     except RecursionError:
-        raise Problem(f"{name}: no description: its lists or tables are nested too deeply") from None
+        raise Problem(f"{name}: no {kind}: its lists or tables are nested too deeply") from None
     except ValueError:
         digits = re.search(r"[0-9_]{4000,}", text)
         line = f"line {text.count(chr(10), 0, digits.start()) + 1}: " if digits else ""
         raise Problem(f"{name}: {line}a number has too many digits") from None
-    try:
-        top = Table(entries, "the description", {"frame", "font", "style", "item"}, Lines(text), ())
+    with named(name):
+        return Table(entries, f"the {kind}", keys, Lines(text), ())
+
+
+def read_description(files, path):
+    """The parts of a description."""
+    top = read_toml(files, path, "description", {"frame", "font", "style", "item"})
+    with named(input_name(path)):
         return read_parts(top, files, Path(path).parent if path != "-" else Path())
-    except Problem as problem:
-        raise Problem(f"{name}: {problem}", problem.status) from None
 
 
 def read_parts(top, files, folder):
@@ -294,12 +298,13 @@ def read_item(table, fonts, styles):
 
 
 def item_text(table):
+    """The bytes of 'text' or 'lines'; those that were no characters in the words of a command are as they were."""
     if "lines" in table:
         lines = table.entries["lines"]
         if "text" in table or not isinstance(lines, list) or not all(isinstance(line, str) for line in lines):
             raise table.problem("lines", "'lines' is a list of strings, and stands in the place of 'text'")
         return "\n".join(lines).encode("utf-8")
-    return table.string("text").encode("utf-8")
+    return table.string("text").encode("utf-8", "surrogateescape")
 
 
 def style_bytes(said):

@@ -1,4 +1,5 @@
-"""The files of one run: what is read, and what is written. An input is never written over. '-' is standard input or output.
+"""The files of one run: what is read, and what is written. An input is never written over, but for a sheet that is edited. '-' is standard input or
+output.
 
 A file is written beside its place, and takes it when everything was written: after an error, each file is as it was.
 """
@@ -38,7 +39,7 @@ class Files:
         """The text of a file in UTF-8, with line feeds alone as line ends."""
         data, name = self.read(path, MOST_TEXT), input_name(path)
         if len(data) > MOST_TEXT:
-            raise Problem(f"{name}: longer than {MOST_TEXT} bytes, which is no description and no font")
+            raise Problem(f"{name}: longer than {MOST_TEXT} bytes, which is no description, no list of edits and no font")
         if data.startswith(b"\xef\xbb\xbf"):
             raise Problem(f"{name}: begins with a byte order mark (EF BB BF): save it as UTF-8 without one")
         try:
@@ -56,10 +57,10 @@ class Files:
         """Writes lines to standard output."""
         self.write([("-", said(lines))])
 
-    def prepare(self, outputs):
-        """Writes each file beside its place. Nothing is written if one of the paths is an input, or two are the same."""
+    def prepare(self, outputs, edited=None):
+        """Writes each file beside its place. Nothing is written if one of the paths is an input other than the one that is edited, or two are the same."""
         for number, (path, _) in enumerate(outputs):
-            self.refuse_input(path)
+            self.refuse_input(path, edited)
             for other, _ in outputs[:number]:
                 if same_output(path, other):
                     raise Problem(f"{path}: named for two outputs", 2)
@@ -80,12 +81,12 @@ class Files:
         for output in self.outputs:
             output.discard()
 
-    def refuse_input(self, path):
+    def refuse_input(self, path, edited=None):
         found = status_of(path)
         if found is None or not stat.S_ISREG(found.st_mode):
             return
         for name, read in self.inputs:
-            if os.path.samestat(found, read):
+            if name != edited and os.path.samestat(found, read):
                 raise Problem(f"{output_name(path)}: this file is an input ({input_name(name)}), and is not written over", 2)
 
 

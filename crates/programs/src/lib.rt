@@ -1,4 +1,4 @@
-// What the programs share: words, numbers, refusals and files written, the number of a sheet's pixels, strange frames and checksums.
+// What the programs share: words, numbers, refusals, faults and files written, the number of a sheet's pixels, strange frames and checksums.
 use libc::STDERR_FILENO;
 use libc::STDOUT_FILENO;
 use sheet::fields::frame_height;
@@ -68,6 +68,12 @@ fn write_refused_to(file: i32, code: u32) {
 pub fn write_refused(code: u32) {
     write_refused_to(STDOUT_FILENO, code);
     write_refused_to(STDERR_FILENO, code);
+}
+
+// Writes a line to standard output, and the same to standard error.
+pub fn write_fault(line: &[u8]) {
+    write_word(line);
+    io::write_all(STDERR_FILENO, line);
 }
 
 // Writes the first k bytes to standard output; where the write fails or ends early, the fault is said on standard error.

@@ -1,10 +1,9 @@
 // Reads a BDF file from standard input; writes its font, or `refused`, its number and a feed. For a file of more than 4,194,304 bytes it writes
 // `too long` and a feed. Where no font was written, standard error says so.
-use libc::STDERR_FILENO;
 use libc::STDIN_FILENO;
+use programs::write_fault;
 use programs::write_part;
 use programs::write_refused;
-use programs::write_word;
 use station::station_read_bdf;
 
 // Writes the font of a file, or the refusal.
@@ -21,8 +20,7 @@ fn write_font_of(file: &[u8], font: &mut [u8]) {
 fn run(file: &mut [u8], font: &mut [u8]) {
     let n = io::read_full(STDIN_FILENO, file);
     if n == file.len() {
-        write_word(b"too long\n");
-        io::write_all(STDERR_FILENO, b"too long\n");
+        write_fault(b"too long\n");
         return;
     }
     write_font_of(&file[..n], font);
