@@ -1,4 +1,4 @@
-"""Makes crates/edit_lists/stdin and stdout: a sheet, a list of edits, and what docs/SHEET.md says of them.
+"""Makes crates/edit_lists/stdin and stdout: a sheet, a list of single edits and batches, and what docs/SHEET.md says of them.
 
 A plain model that follows docs/SHEET.md and uses nothing of the crates: the page is drawn pixel by pixel, the sheet is kept as bytes, and each edit is
 refused or made on those bytes. Run it from the repository's root.
@@ -230,10 +230,59 @@ def edit(sheet, kind, n, data):
     return (0, *damage(before, ink(read_item(sheet, n))))
 
 
+# the batches
+
+KINDS = ('text', 'place', 'style')
+
+
+def entry(kind, n, data):
+    data = struct.pack('<ii', *data) if kind == 'place' else data
+    return struct.pack('<BBH', KINDS.index(kind), n, len(data)) + data
+
+
+def entries(data):
+    """The edits of a batch, or none if it is refused with 22."""
+    found = []
+    while data:
+        if len(data) < 4:
+            return None
+        kind, n, size = struct.unpack_from('<BBH', data)
+        bytes_, data = data[4:4 + size], data[4 + size:]
+        if len(bytes_) < size or kind >= len(KINDS) or (KINDS[kind] == 'place' and size != 8):
+            return None
+        found.append((KINDS[kind], n, struct.unpack('<ii', bytes_) if KINDS[kind] == 'place' else bytes_))
+    return found
+
+
+def batch(sheet, data):
+    """The reply: the refusal that stopped it, how many edits were made, and the rectangle that holds theirs."""
+    edits = entries(data)
+    if edits is None:
+        return (22, 0, 0, 0, 0, 0)
+    made, boxes = 0, []
+    for e in edits:
+        code, left, top, w, h = edit(sheet, *e)
+        if code:
+            break
+        made += 1
+        boxes.append((left, top, left + w, top + h) if w and h else None)
+    left, top, right, bottom = join(boxes) or (0, 0, 0, 0)
+    return (code if edits else 0, made, left, top, right - left, bottom - top)
+
+
+# the stored list and what is written
+
 def stored(kind, n, data):
     if kind == 'place':
         return struct.pack('<BIii', 1, n, *data)
-    return struct.pack('<BIH', {'text': 0, 'style': 2}[kind], n, len(data)) + data
+    return struct.pack('<BIH', {'text': 0, 'style': 2, 'batch': 3}[kind], n, len(data)) + data
+
+
+def line(number, sheet, kind, n, data):
+    if kind != 'batch':
+        return 'edit %d: %d %d %d %d %d same outside kept' % (number, *edit(sheet, kind, n, data))
+    reply = batch(sheet, data)
+    return 'batch %d: %d %d %d %d %d %d %s outside kept' % (number, *reply, 'refused' if reply[0] == 22 else 'same')
 
 
 def checksum(data):
@@ -289,13 +338,49 @@ LIST = [
     ('text', 7, b'\nlow'),
 ]
 
+# a reading that changes a dozen lines, of all kinds; the edited items apart, over each other, off the frame and unpainted
+READING = [
+    ('text', 1, b'2.31'), ('place', 1, (20, 10)), ('text', 4, b'AB\nB'), ('style', 3, BOTH), ('place', 5, (-400, 2)), ('text', 5, b'off'),
+    ('style', 2, NEITHER), ('text', 2, b'hidden'), ('style', 2, bytes(8)), ('place', 2, (9, 33)), ('text', 7, b'low'), ('style', 2, BOTH),
+]
+REFUSED = [
+    ('text', 8, b'A'), ('style', 64, BOTH), ('text', 128, b'A'), ('place', 255, (0, 0)), ('text', 0, b'A' * 17), ('text', 1, b'\xc3'),
+    ('place', 1, (0, 32768)), ('place', 1, (-32769, 0)), ('style', 1, BOTH[:7]), ('style', 1, BOTH + b'\0'), ('style', 1, b'\2' + BOTH[1:]),
+    ('style', 0, b''),
+]
+
+
+def list_of(*edits):
+    return b''.join(entry(*e) for e in edits)
+
+
+PLACE = struct.pack('<ii', 4, 5)
+BEFORE = entry('text', 0, b'BABA')
+# cut in the head, cut in the data, a length past the end, an unknown kind, a place too short and too long
+BAD = [
+    BEFORE[:1], BEFORE[:2], BEFORE[:3], BEFORE[:-1], b'\0\0\xff\xff' + b'A' * 9, b'\3\0\0\0', b'\xff\0\0\0', b'\1\0\7\0' + PLACE[:7],
+    b'\1\0\x09\0' + PLACE + b'\0', b'\1\0\0\0',
+]
+BATCHES = [
+    list_of(*READING), list_of(*READING), b'', list_of(('text', 0, b'A'), ('text', 0, b''), ('text', 0, b'AB')),
+    # the joined rectangle: of two corners; of empty ones alone; of one behind an empty one
+    list_of(('place', 0, (0, 0)), ('place', 6, (60, 42))), list_of(('place', 5, (-300, 2)), ('text', 5, b'away')),
+    list_of(('place', 5, (-400, 2)), ('text', 1, b'here'), ('text', 5, b'')),
+    # refused midway: what stands before it is made, what stands behind it is not; refused at once
+    *(list_of(('text', 0, b'AB'[k % 2:]), ('place', 6, (50 - k, 30)), e, ('text', 1, b'behind')) for k, e in enumerate(REFUSED)),
+    *(list_of(e, ('text', 1, b'behind')) for e in REFUSED),
+    # refused with 22: alone, behind an edit that is not made, and behind one that would be refused; before an edit
+    *(before + bad for before in (b'', BEFORE, BEFORE + entry('text', 255, b'A')) for bad in BAD), b'\3\0\4\0BABA' + BEFORE,
+    # a text that reads as entries; more edits than a byte counts
+    list_of(('text', 6, list_of(('text', 0, b'B'), ('place', 0, (1, 2)))), ('text', 6, b'')), list_of(*[('text', 5, b'')] * 300),
+]
+LIST += [('batch', 0, data) for data in BATCHES] + [('text', 0, b'AB'), ('place', 6, (33, 8)), ('batch', 0, list_of(*READING))]
+
 
 def main():
     sheet = build([SAMPLE, LARGE, FLAT], ITEMS)
     stdin = struct.pack('<II', len(sheet), WIDTH * HEIGHT) + sheet + b''.join(stored(*e) for e in LIST)
-    out = ['drawing 0']
-    for k, e in enumerate(LIST):
-        out.append('edit %d: %d %d %d %d %d same outside kept' % (k + 1, *edit(sheet, *e)))
+    out = ['drawing 0'] + [line(k + 1, sheet, *e) for k, e in enumerate(LIST)]
     out += ['drawing 0', 'sheets same', 'frames same', 'sheet %d' % checksum(sheet), 'frame %d' % checksum(page(sheet))]
     folder = os.path.join(os.path.dirname(os.path.abspath(__file__)), '..', 'crates', 'edit_lists')
     with open(os.path.join(folder, 'stdin'), 'wb') as f:

@@ -5,8 +5,8 @@
 #   tests/host.sh
 #
 # Each test prints 'ok NAME' or 'FAILED NAME'; the last line is 'N passed, M failed', and the exit status is 1 if one failed. A compiler that
-# is missing is installed if that is possible. The archive is made if it is missing or older than the crates, and station_page and read_bdf if
-# they are missing.
+# is missing is installed if that is possible. The archive is made if it is missing or older than the crates, and station_page, read_bdf
+# and station_edits if they are missing.
 set -uo pipefail
 cd "$(dirname "$0")/.."
 
@@ -111,6 +111,11 @@ ink() {
   "$1" -std=c99 -O2 "${warnings[@]}" tests/host/ink.c "$archive" -o "$out/ink" && "$out/ink"
 }
 
+# lists COMPILER: lists of edits, good and bad, beside the same edits one by one.
+lists() {
+  "$1" -std=c99 -O2 "${warnings[@]}" tests/host/lists.c "$archive" -o "$out/lists" && "$out/lists"
+}
+
 # radio COMPILER: a day of edits on two sheets, of which a page ashore gets the rectangles; what they come to is stored.
 radio() {
   "$1" -std=c99 -O2 "${warnings[@]}" tests/host/radio.c "$archive" -o "$out/radio" &&
@@ -124,7 +129,7 @@ worst() {
 
 mkdir -p "$out"
 try "libstation.a" make_archive
-for name in station_page read_bdf; do
+for name in station_page read_bdf station_edits; do
   try "$name" make_program "$name"
 done
 for name in gcc g++ clang clang++; do
@@ -164,6 +169,7 @@ try "no variables, and memset alone" no_variables
 try "threads on one sheet, gcc" threads gcc
 try "lines in two runs, gcc" joined gcc
 try "ink that no style paints, gcc" ink gcc
+try "lists of edits, gcc" lists gcc
 try "a day of edits by radio, gcc" radio gcc
 for name in gcc clang; do
   try "worst cases are built, $name" worst "$name"

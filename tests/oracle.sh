@@ -83,7 +83,7 @@ reply_of() {
   local frame=$((14 + $(u16_at 12))) at call part
   at=$((frame + 2 + $(u16_at "$frame") + 4))
   for ((call = 1; call < $1; call++)); do
-    at=$((at + 35 + $(u16_at $((at + 13)))))
+    at=$((at + 39 + $(u16_at $((at + 13)))))
     for part in sheet frame output; do
       at=$((at + 4 + $(u16_at $((at + 2)))))
     done
@@ -108,7 +108,7 @@ notice_changed() {
 # many characters are replaced, a grey, and whether a character is listed.
 notice_changed_bytes() {
   target/bin/oracle_list < "$list" | cmp - crates/oracle_list/stdout || return
-  notice_changed 1 4 0 reply && notice_changed 1 4 12 reply && notice_changed 1 4 28 frame && notice_changed 9 1 8 reply
+  notice_changed 1 4 0 reply && notice_changed 1 4 16 reply && notice_changed 1 4 32 frame && notice_changed 9 1 12 reply
 }
 
 notice_cut() {
@@ -122,7 +122,7 @@ bench=$!
 run_test marked target/oracle/driver marked
 run_test list make_list_again
 run_test compare target/oracle/compare cases 2000
-run_test faults target/oracle/compare faults cases 600
+run_test faults target/oracle/compare faults cases 1000
 run_test program make_program
 run_test unknown_words refuse_words
 run_test changed_bytes notice_changed_bytes

@@ -2,7 +2,8 @@
 Its reader of BDF fonts has nothing of the other one, tests/bdf_model.py, nor of that of the tools.
 
 Each part has the title of the paper's section that it follows. The calls are the functions at the end: each takes the lent bytes and its numbers, changes sheet, frame
-and output (bytearrays) as the paper says, and returns its reply as a tuple, the code first. An edit with None for a frame is one on the sheet alone.
+and output (bytearrays) as the paper says, and returns its reply as a tuple, the code first. An edit, or a list of them, with None for a frame is made on the
+sheet alone.
 """
 from collections import namedtuple
 from functools import lru_cache
@@ -16,9 +17,9 @@ def number(b, at, size):
     return sum(byte << 8 * k for k, byte in enumerate(b[at:at + size]))
 
 
-def signed(b, at):
-    n = number(b, at, 2)
-    return n if n < 32_768 else n - 65_536
+def signed(b, at, size=2):
+    n = number(b, at, size)
+    return n if n < 256**size // 2 else n - 256**size
 
 
 # ---- Geometry: a rectangle is (left, top, width, height); a frame is lent with its width
@@ -298,6 +299,30 @@ def edited(b, frame, n, changes):
     return 0, left, top, w, h
 
 
+# ---- A list of edits
+
+def entries_of(edits):
+    """Kind, item number and data of each entry; None if the entries do not fill the list exactly, have an unknown kind or a place not 8 bytes long."""
+    found, at = [], 0
+    while at < len(edits):
+        end = at + 4 + number(edits, at + 2, 2)
+        if at + 4 > len(edits) or end > len(edits):
+            return None
+        kind, item, data = edits[at], edits[at + 1], edits[at + 4:end]
+        if kind > 2 or kind == 1 and len(data) != 8:
+            return None
+        found.append((kind, item, data))
+        at = end
+    return found
+
+
+def entry_made(b, frame, kind, item, data):
+    """The edit that an entry is, made singly."""
+    if kind == 1:
+        return set_place(b, frame, item, signed(data, 0, 4), signed(data, 4, 4))
+    return (set_style if kind else set_text)(b, frame, item, data)
+
+
 # ---- Page and host
 
 def page_file(b, frame):
@@ -552,6 +577,20 @@ def set_place(b, frame, n, x, y):
 def set_style(b, frame, n, style):
     code = code_of(b, frame, item=n) or (0 if good_style(style) else 16)
     return (code, 0, 0, 0, 0) if code else edited(b, frame, n, [(record(b, n) + 13, style)])
+
+
+def edit_list(b, frame, edits):
+    entries = entries_of(bytes(edits))
+    code = code_of(b, frame) or (22 if entries is None else 0)
+    if code:
+        return code, 0, 0, 0, 0, 0
+    made = []
+    for entry in entries:
+        code, *area = entry_made(b, frame, *entry)
+        if code:
+            break
+        made.append(area)
+    return code, len(made), *(join(made) or (0, 0, 0, 0))
 
 
 def write_page(b, frame, output):

@@ -2,9 +2,9 @@
 
 use crate::characters::decode;
 use crate::check::check;
-use crate::edits::{damage, make, refusal, Rect};
+use crate::edits::{batch, damage, entries, make, refusal, Rect};
 use crate::fields::Header;
-use crate::reply::{Area, Drawn, Edit, Glyph, Number, Position, Station, Step};
+use crate::reply::{Area, Batch, Drawn, Edit, Glyph, Number, Position, Station, Step};
 
 /// Who paints and measures on an accepted sheet and a frame of its size.
 pub trait Painter {
@@ -100,9 +100,9 @@ impl<P: Painter> Calls<P> {
         Ok(rect)
     }
 
-    // "inside document 01's rectangle stands the fresh drawing of the edited sheet, outside it each
-    // pixel keeps its grey" (demand 3, docs/DEMANDS.md).
-    fn repaint(&self, sheet: &[u8], frame: &mut [u8], header: &Header, rect: &Rect) {
+    /// "inside document 01's rectangle stands the fresh drawing of the edited sheet, outside it each
+    /// pixel keeps its grey" (demand 3, docs/DEMANDS.md).
+    pub fn repaint(&self, sheet: &[u8], frame: &mut [u8], header: &Header, rect: &Rect) {
         let mut fresh = vec![0; frame.len()];
         self.0.draw(sheet, &mut fresh);
         for row in rect.top as usize..rect.top as usize + rect.height as usize {
@@ -211,6 +211,20 @@ impl<P: Painter> Station for Calls<P> {
 
     fn edit_on_sheet(&self, sheet: &mut [u8], item: u32, edit: Edit) -> Area {
         area(self.edited(sheet, None, item, edit))
+    }
+
+    // "Edits run in order, the first refused one stops the list, and the earlier ones stand." "It
+    // refuses with 22, after 11 and before any edit".
+    fn edit_list(&self, sheet: &mut [u8], frame: &mut [u8], list: &[u8]) -> Batch {
+        let ready = accepted(sheet).and_then(|header| framed(&header, frame));
+        match ready.and_then(|()| entries(list).ok_or(22)) {
+            Ok(entries) => batch(
+                entries
+                    .into_iter()
+                    .map(|(item, edit)| self.edit(sheet, frame, item, edit)),
+            ),
+            Err(code) => Batch::refused(code),
+        }
     }
 
     fn write_page(&self, sheet: &[u8], frame: &[u8], output: &mut [u8]) -> Number {

@@ -3,11 +3,13 @@
 
 use crate::check::check;
 use crate::comparison::Case;
+use crate::edits::entry;
 use crate::generate::{self, Scale};
 use crate::malformed::damaged;
 use crate::model::SheetModel;
 use crate::operation::{self, frame_length, output_length, Call, Operation};
 use crate::random::Random;
+use crate::reply::Edit;
 
 /// What is run for one number.
 pub enum Cases {
@@ -40,10 +42,8 @@ fn calls(random: &mut Random, model: &SheetModel) -> Case {
     for _ in 0..calls_on(random, model) {
         if random.once_in(3) {
             let seed = random.number().into();
-            case.operations.push(Operation {
-                call: Call::NewGreys { seed },
-                data: Vec::new(),
-            });
+            case.operations
+                .push(Operation::new(Call::NewGreys { seed }));
         }
         case.operations.push(operation::operation(random, model));
     }
@@ -53,17 +53,15 @@ fn calls(random: &mut Random, model: &SheetModel) -> Case {
 fn runs(random: &mut Random, model: &SheetModel) -> Cases {
     let mut patched = case(random, model.encode(), model, model.area());
     let mut fresh = case(random, model.encode(), model, model.area());
-    let draw = Operation {
-        call: Call::Draw,
-        data: Vec::new(),
-    };
+    let draw = Operation::new(Call::Draw);
     patched.operations.push(draw.clone());
     for _ in 0..calls_on(random, model) {
-        let edit = operation::edit(random, model);
-        fresh.operations.push(Operation {
-            call: edit.call.on_sheet(),
-            data: edit.data.clone(),
-        });
+        let edit = if random.once_in(4) {
+            operation::edit_list(random, model)
+        } else {
+            operation::edit(random, model)
+        };
+        fresh.operations.extend(edit.counted(&fresh.sheet));
         patched.operations.push(edit);
     }
     fresh.operations.push(draw);
@@ -77,6 +75,7 @@ pub fn every_call(random: &mut Random, model: &SheetModel) -> Vec<Operation> {
     let (x, y) = (random.between(-3, 9), random.between(-3, 9));
     let style = generate::style(random).to_vec();
     let text = b"A".to_vec();
+    let list = entry(item as u8, Edit::Text(&text));
     let calls = [
         (Call::Check, vec![]),
         (Call::Index { font, character }, vec![]),
@@ -88,6 +87,7 @@ pub fn every_call(random: &mut Random, model: &SheetModel) -> Vec<Operation> {
         (Call::SetText { item }, text.clone()),
         (Call::SetPlace { item, x, y }, vec![]),
         (Call::SetStyle { item }, style.clone()),
+        (Call::EditList, list),
         (Call::SetTextOnSheet { item }, text),
         (Call::SetPlaceOnSheet { item, x, y }, vec![]),
         (Call::SetStyleOnSheet { item }, style),

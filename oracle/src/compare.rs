@@ -18,16 +18,39 @@ mod host;
 
 use oracle::cases::{cases, Cases};
 use oracle::comparison::{compare, Buffers, Case, Difference};
+use oracle::edits::{batch, entries};
 use oracle::faulty::{Fault, Faulty, FAULTS};
 use oracle::generate::Scale;
 use oracle::marked::marked_lines;
-use oracle::operation::hex;
+use oracle::operation::{hex, Call, Operation, Reply};
 use oracle::reduce::reduce;
 use oracle::tally::Tally;
 use oracle::{check, crash, sweeps, Calls, Crate, Oracle, Plain, Station};
 use std::time::Instant;
 
 const ORACLE: Oracle = Calls(Crate { rows: true });
+
+/// The fresh run's replies in the form of the patched run's: of a batch the one that its entries'
+/// form, "except at 22", where the patched run's own stands. None if they are not as many.
+fn formed(operations: &[Operation], patched: &[Reply], fresh: &[Reply]) -> Option<Vec<Reply>> {
+    let mut fresh = fresh.iter();
+    let mut formed = Vec::new();
+    for (operation, reply) in operations.iter().zip(patched) {
+        formed.push(match operation.call {
+            Call::EditList if reply.code() == 22 => *reply,
+            Call::EditList => {
+                let count = entries(&operation.data)?.len();
+                let replies = fresh.by_ref().take(count);
+                Reply::Batch(batch(replies.filter_map(|reply| match reply {
+                    Reply::Area(area) => Some(*area),
+                    _ => None,
+                })))
+            }
+            _ => *fresh.next()?,
+        });
+    }
+    fresh.as_slice().is_empty().then_some(formed)
+}
 
 /// A comparison that goes on: who is tested, with what, and what was met.
 struct Comparison<'a> {
@@ -56,9 +79,11 @@ impl Comparison<'_> {
             .case(fresh)
             .map_err(|difference| (fresh.clone(), difference))?;
         let edits = patched.operations.len() - 1;
+        let (_, replies) = second.replies.split_last().expect("the fresh drawing's");
+        let formed = formed(&patched.operations[1..], &first.replies[1..], replies);
         let alike = first.sheet == second.sheet
             && first.frame == second.frame
-            && first.replies[1..] == second.replies[..edits];
+            && formed.as_deref() == Some(&first.replies[1..]);
         self.tally.count("lists of edits, patched and fresh alike");
         if alike {
             return Ok(());

@@ -3,7 +3,7 @@
 
 use crate::characters::decode_all;
 use crate::fields::{Header, Item};
-use crate::reply::Edit;
+use crate::reply::{Area, Batch, Edit};
 
 /// "A rectangle (left, top, width, height)".
 #[derive(Debug, Clone, Copy, PartialEq, Eq, Default)]
@@ -72,6 +72,89 @@ pub fn damage(before: Option<Rect>, after: Option<Rect>, header: &Header) -> Rec
         )
     });
     cut.unwrap_or_default()
+}
+
+/// "Each entry is an edit kind (0 text, 1 place, 2 style; 1 byte), item number (1), data length (2)
+/// and data; place data are two signed 32-bit numbers, x and y." None for "a list whose entries
+/// don't fill it exactly, have an unknown kind or a place not 8 bytes long".
+pub fn entries(list: &[u8]) -> Option<Vec<(u32, Edit<'_>)>> {
+    let mut entries = Vec::new();
+    let mut rest = list;
+    while let [kind, item, low, high, data @ ..] = rest {
+        let (data, behind) = data.split_at_checked(u16::from_le_bytes([*low, *high]).into())?;
+        let edit = match kind {
+            0 => Edit::Text(data),
+            1 => {
+                let number = |at| data[at..at + 4].try_into().map(i32::from_le_bytes).ok();
+                if data.len() != 8 {
+                    return None;
+                }
+                Edit::Place(number(0)?, number(4)?)
+            }
+            2 => Edit::Style(data),
+            _ => return None,
+        };
+        entries.push((u32::from(*item), edit));
+        rest = behind;
+    }
+    rest.is_empty().then_some(entries)
+}
+
+/// A list cut behind each entry; the last piece is what is left.
+pub fn pieces(list: &[u8]) -> Vec<&[u8]> {
+    let mut pieces = Vec::new();
+    let mut rest = list;
+    while !rest.is_empty() {
+        let size = match rest {
+            [_, _, low, high, ..] => 4 + usize::from(u16::from_le_bytes([*low, *high])),
+            _ => rest.len(),
+        };
+        let (piece, behind) = rest.split_at(size.min(rest.len()));
+        pieces.push(piece);
+        rest = behind;
+    }
+    pieces
+}
+
+/// An entry of a list.
+pub fn entry(item: u8, edit: Edit) -> Vec<u8> {
+    let (kind, data) = match edit {
+        Edit::Text(text) => (0, text.to_vec()),
+        Edit::Place(x, y) => (1, [x.to_le_bytes(), y.to_le_bytes()].concat()),
+        Edit::Style(style) => (2, style.to_vec()),
+    };
+    let [low, high] = (data.len() as u16).to_le_bytes();
+    [&[kind, item, low, high], &data[..]].concat()
+}
+
+/// "The reply gives the number made, that refusal or 0, and the smallest rectangle holding the
+/// nonempty ones of the edits made, else four zeros." From the replies to a list's edits, made
+/// singly up to the first refused one.
+pub fn batch(replies: impl IntoIterator<Item = Area>) -> Batch {
+    let mut batch = Batch::default();
+    let mut joined = None;
+    for reply in replies {
+        if reply.code != 0 {
+            batch.code = reply.code;
+            break;
+        }
+        let rect = Rect {
+            left: reply.left,
+            top: reply.top,
+            width: reply.width,
+            height: reply.height,
+        };
+        batch.made += 1;
+        joined = join(joined, rect.unless_empty());
+    }
+    let rect = joined.unwrap_or_default();
+    Batch {
+        left: rect.left,
+        top: rect.top,
+        width: rect.width,
+        height: rect.height,
+        ..batch
+    }
 }
 
 /// The edit's own refusal on an accepted sheet with that item, 13 to 16, or 0.

@@ -3,11 +3,11 @@
 
 use crate::calls::{Calls, Painter};
 use crate::check::check;
-use crate::edits::{damage, Rect};
+use crate::edits::{batch, damage, entries, pieces, Rect};
 use crate::fields::{Font, Header, Item};
 use crate::model::{FontModel, ItemModel, SheetModel};
 use crate::plain::{ink_over, ink_rows, Plain};
-use crate::reply::{Area, Drawn, Edit, Glyph, Number, Position, Station, Step};
+use crate::reply::{Area, Batch, Drawn, Edit, Glyph, Number, Position, Station, Step};
 
 macro_rules! faults {
     ($($(#[$note:meta])* $name:ident,)*) => {
@@ -72,6 +72,18 @@ faults! {
     PlaceCutTo16Bits,
     UnusedGreysCleared,
     OldTextLeftInSlot,
+    ListGoesOnAfterARefusal,
+    RefusedEditCounted,
+    EarlierEditsUndone,
+    StoppedListRepliesZeros,
+    JoinedRectangleRepainted,
+    EmptyRectanglesJoined,
+    LastRectangleAlone,
+    BadEntryFoundOnTheWay,
+    CutHeadLeftOut,
+    UnknownKindAsStyle,
+    LongPlaceTaken,
+    LongStyleRefusedWithTheList,
     OutputClearedPastThePage,
     WalkerOffsetMovedToTheEnd,
 }
@@ -339,6 +351,50 @@ impl Faulty {
         self.rectangle(&before, sheet, item as usize)
     }
 
+    // The entries that are read by mistake, one by one.
+    fn read(&self, list: &[u8]) -> Vec<Vec<u8>> {
+        let changed = pieces(list).into_iter().map(|piece| match (self.0, piece) {
+            (Fault::CutHeadLeftOut, _) if piece.len() < 4 => Vec::new(),
+            (Fault::UnknownKindAsStyle, [3..=255, rest @ ..]) => [&[2], rest].concat(),
+            (Fault::LongPlaceTaken, [1, item, 9, 0, place @ .., _]) => {
+                [&[1, *item, 8, 0], place].concat()
+            }
+            (Fault::LongStyleRefusedWithTheList, [2, _, 9..=255, ..]) => vec![3, 0, 0, 0],
+            _ => piece.to_vec(),
+        });
+        let is_entry = |entry: &Vec<u8>| entries(entry).is_some();
+        if self.0 == Fault::BadEntryFoundOnTheWay {
+            changed.take_while(is_entry).collect()
+        } else {
+            changed.collect()
+        }
+    }
+
+    // The reply that is formed by mistake from those of a list's edits.
+    fn formed(&self, replies: &[Area]) -> Batch {
+        let refused = replies.iter().find(|reply| reply.code != 0);
+        let made: Vec<Area> = replies.iter().copied().filter(|r| r.code == 0).collect();
+        let last = made.len().saturating_sub(1);
+        let mut reply = match self.0 {
+            Fault::LastRectangleAlone => batch(made[last..].iter().copied()),
+            _ => batch(made.iter().copied()),
+        };
+        reply.code = refused.map_or(0, |reply| reply.code);
+        reply.made = made.len() as u32;
+        match self.0 {
+            Fault::EmptyRectanglesJoined if made.iter().any(|area| area.width == 0) => {
+                reply.width += std::mem::take(&mut reply.left) as u32;
+                reply.height += std::mem::take(&mut reply.top) as u32;
+            }
+            Fault::RefusedEditCounted => reply.made += u32::from(reply.code != 0),
+            Fault::StoppedListRepliesZeros if reply.code != 0 => {
+                reply = Batch::refused(reply.code);
+            }
+            _ => {}
+        }
+        reply
+    }
+
     // A later condition of the call that holds too.
     fn falling(&self, code: u32, later: &[(u32, bool)]) -> u32 {
         let holds = |(other, holds): &&(u32, bool)| *holds && *other > code;
@@ -511,6 +567,46 @@ impl Station for Faulty {
 
     fn edit_on_sheet(&self, sheet: &mut [u8], item: u32, edit: Edit) -> Area {
         self.edited(sheet, item, edit)
+    }
+
+    fn edit_list(&self, sheet: &mut [u8], frame: &mut [u8], list: &[u8]) -> Batch {
+        let (old_sheet, old_frame) = (sheet.to_vec(), frame.to_vec());
+        let is_bad = entries(list).is_none();
+        let code = GOOD.edit_list(sheet, frame, &[]).code;
+        if code != 0 {
+            return Batch::refused(self.falling(code, &[(22, is_bad)]));
+        }
+        let read = self.read(list).concat();
+        let Some(edits) = entries(&read) else {
+            return Batch::refused(22);
+        };
+        let mut replies = Vec::new();
+        for (item, edit) in edits {
+            let reply = self.edit(sheet, frame, item, edit);
+            replies.push(reply);
+            if reply.code != 0 && self.0 != Fault::ListGoesOnAfterARefusal {
+                break;
+            }
+        }
+        let mut reply = self.formed(&replies);
+        match self.0 {
+            Fault::BadEntryFoundOnTheWay if is_bad && reply.code == 0 => reply.code = 22,
+            Fault::EarlierEditsUndone if reply.code != 0 => {
+                sheet.copy_from_slice(&old_sheet);
+                frame.copy_from_slice(&old_frame);
+            }
+            Fault::JoinedRectangleRepainted => {
+                let rect = Rect {
+                    left: reply.left,
+                    top: reply.top,
+                    width: reply.width,
+                    height: reply.height,
+                };
+                GOOD.repaint(sheet, frame, &Header::read(sheet), &rect);
+            }
+            _ => {}
+        }
+        reply
     }
 
     fn write_page(&self, sheet: &[u8], frame: &[u8], output: &mut [u8]) -> Number {

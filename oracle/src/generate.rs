@@ -72,14 +72,15 @@ fn atlas(random: &mut Random, scale: Scale, cw: u16, ch: usize) -> (Vec<u8>, u16
     };
     let row = usize::from(width).div_ceil(8);
     let cells = random.between(0, if scale == Scale::Small { 2 } else { 5 }) as usize;
+    let is_short = random.once_in(6);
     let rows = match random.below(10) {
+        _ if is_short => (ch * cells.max(1)).saturating_sub(1),
         0 => 0,
-        1 => (ch * cells).saturating_sub(1),
-        2 => ch * cells + 1,
+        1 => ch * cells + 1,
         _ => ch * cells.max(1),
     };
-    // A last row that lacks a byte does not count.
-    let spare = match random.below(6) {
+    // A last row that lacks a byte does not count, also where the cells lack that row.
+    let spare = match random.below(if is_short { 2 } else { 6 }) {
         0 => row.saturating_sub(1),
         1 => random.below(4),
         _ => 0,

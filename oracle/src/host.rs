@@ -1,7 +1,7 @@
 //! The exported calls of `libstation.a`, as `crates/station/src/lib.rt` exports them: a slice is a pointer
 //! and then its length.
 
-use oracle::reply::{Area, Drawn, Edit, Glyph, Number, Position, Station, Step};
+use oracle::reply::{Area, Batch, Drawn, Edit, Glyph, Number, Position, Station, Step};
 
 extern "C" {
     fn station_check(sheet: *const u8, length: usize) -> u32;
@@ -51,6 +51,14 @@ extern "C" {
         style: *const u8,
         style_length: usize,
     ) -> Area;
+    fn station_edit_list(
+        sheet: *mut u8,
+        length: usize,
+        frame: *mut u8,
+        frame_length: usize,
+        list: *const u8,
+        list_length: usize,
+    ) -> Batch;
     fn station_set_text_on_sheet(
         sheet: *mut u8,
         length: usize,
@@ -144,6 +152,12 @@ impl Station for Library {
                 }
             }
         }
+    }
+
+    fn edit_list(&self, sheet: &mut [u8], frame: &mut [u8], list: &[u8]) -> Batch {
+        let (bytes, length) = (sheet.as_mut_ptr(), sheet.len());
+        let (greys, size) = (frame.as_mut_ptr(), frame.len());
+        unsafe { station_edit_list(bytes, length, greys, size, list.as_ptr(), list.len()) }
     }
 
     fn write_page(&self, sheet: &[u8], frame: &[u8], output: &mut [u8]) -> Number {

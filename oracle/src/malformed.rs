@@ -1,5 +1,5 @@
 //! Damage to sheets: each field outside its limits, ill-formed texts and mappings, pieces that do
-//! not stand as laid out, cut and lengthened files, random bytes.
+//! not stand as laid out, cut and lengthened files, random bytes. Damage to lists of edits.
 
 use crate::fields::{HEADER, RECORD};
 use crate::model::{FontModel, ItemModel, SheetModel};
@@ -259,4 +259,28 @@ pub fn damaged(random: &mut Random, model: &SheetModel) -> Vec<u8> {
         }
     }
     sheet
+}
+
+/// A list with a cut or unknown entry, a place of another length, or a byte changed.
+pub fn damaged_list(random: &mut Random, mut list: Vec<u8>) -> Vec<u8> {
+    let place = random.pick(&[0, 1, 4, 7, 9, 12, 16]);
+    let entry = match random.below(6) {
+        0 => {
+            list.truncate(random.below(list.len() + 1));
+            return list;
+        }
+        1 if !list.is_empty() => {
+            let at = random.below(list.len());
+            list[at] = random.pick(&[0, 1, 2, 3, 8, 255, list[at] ^ 1]);
+            return list;
+        }
+        2 => vec![0; random.below(4)],
+        3 => vec![random.pick(&[3, 4, 128, 255]), 0, 0, 0],
+        4 => [&[0, 0, 1, random.pick(&[0, 1, 255])], &[b'A'; 3][..]].concat(),
+        _ => [vec![1, 0, place, 0], vec![0; place.into()]].concat(),
+    };
+    if random.once_in(3) {
+        return [entry, list].concat();
+    }
+    [list, entry].concat()
 }

@@ -1,14 +1,17 @@
 //! One call with its arguments, as a value: made on anyone who answers, printed, and generated.
 
 use crate::calls::page_header;
+use crate::edits::{entries, entry, refusal};
+use crate::fields::Header;
 use crate::generate;
+use crate::malformed::damaged_list;
 use crate::mappings::asked;
 use crate::model::SheetModel;
 use crate::random::Random;
-use crate::reply::{Area, Drawn, Edit, Glyph, Number, Position, Station, Step};
+use crate::reply::{Area, Batch, Drawn, Edit, Glyph, Number, Position, Station, Step};
 use std::fmt;
 
-/// A call. The bytes of a text, a style or a line stand in `Operation::data`.
+/// A call. The bytes of a text, a style, a list or a line stand in `Operation::data`.
 #[derive(Debug, Clone, Copy, PartialEq, Eq)]
 pub enum Call {
     Check,
@@ -42,6 +45,7 @@ pub enum Call {
     SetStyle {
         item: u32,
     },
+    EditList,
     SetTextOnSheet {
         item: u32,
     },
@@ -79,6 +83,7 @@ pub enum Reply {
     Position(Position),
     Drawn(Drawn),
     Area(Area),
+    Batch(Batch),
     Step(Step),
 }
 
@@ -92,6 +97,7 @@ impl Reply {
             Self::Position(position) => position.code,
             Self::Drawn(drawn) => drawn.code,
             Self::Area(area) => area.code,
+            Self::Batch(batch) => batch.code,
             Self::Step(step) => step.code,
         }
     }
@@ -135,6 +141,7 @@ impl Call {
             Self::SetStyle { item } => {
                 Reply::Area(station.edit(sheet, frame, item, Edit::Style(data)))
             }
+            Self::EditList => Reply::Batch(station.edit_list(sheet, frame, data)),
             Self::SetTextOnSheet { item } => {
                 Reply::Area(station.edit_on_sheet(sheet, item, Edit::Text(data)))
             }
@@ -151,16 +158,6 @@ impl Call {
                 frame.copy_from_slice(&greys);
                 Reply::Code(0)
             }
-        }
-    }
-
-    /// The edit on the sheet alone for an edit with a frame; other calls as they are.
-    pub fn on_sheet(self) -> Self {
-        match self {
-            Self::SetText { item } => Self::SetTextOnSheet { item },
-            Self::SetPlace { item, x, y } => Self::SetPlaceOnSheet { item, x, y },
-            Self::SetStyle { item } => Self::SetStyleOnSheet { item },
-            other => other,
         }
     }
 
@@ -185,6 +182,58 @@ impl Call {
 pub fn hex(bytes: &[u8]) -> String {
     let pairs: Vec<String> = bytes.iter().map(|byte| format!("{byte:02X}")).collect();
     pairs.join(" ")
+}
+
+impl Operation {
+    /// A call without data.
+    pub fn new(call: Call) -> Self {
+        let data = Vec::new();
+        Self { call, data }
+    }
+
+    /// An edit on the sheet alone.
+    fn on_sheet(item: u32, edit: Edit) -> Self {
+        let (call, data) = match edit {
+            Edit::Text(text) => (Call::SetTextOnSheet { item }, text),
+            Edit::Place(x, y) => (Call::SetPlaceOnSheet { item, x, y }, &[] as &[u8]),
+            Edit::Style(style) => (Call::SetStyleOnSheet { item }, style),
+        };
+        let data = data.to_vec();
+        Self { call, data }
+    }
+
+    /// The item and the edit of an edit with a frame.
+    fn edit(&self) -> Option<(u32, Edit<'_>)> {
+        match self.call {
+            Call::SetText { item } => Some((item, Edit::Text(&self.data))),
+            Call::SetPlace { item, x, y } => Some((item, Edit::Place(x, y))),
+            Call::SetStyle { item } => Some((item, Edit::Style(&self.data))),
+            _ => None,
+        }
+    }
+
+    /// What an edit with a frame counts as in the fresh run, on the sheet alone. "a batch counts as
+    /// its entries up to there, with the refused one, or as none at 22". Which one is refused is
+    /// the same on each sheet of the run, since no edit changes slots and counts.
+    pub fn counted(&self, sheet: &[u8]) -> Vec<Self> {
+        let edits = match self.edit() {
+            Some(edit) => vec![edit],
+            None => entries(&self.data).unwrap_or_default(),
+        };
+        let mut counted = Vec::new();
+        for (item, edit) in edits {
+            counted.push(Self::on_sheet(item, edit));
+            if is_refused(sheet, item, edit) {
+                break;
+            }
+        }
+        counted
+    }
+}
+
+/// Whether an edit is refused on an accepted sheet.
+fn is_refused(sheet: &[u8], item: u32, edit: Edit) -> bool {
+    item >= Header::read(sheet).items || refusal(sheet, item as usize, edit) != 0
 }
 
 impl fmt::Display for Operation {
@@ -282,6 +331,32 @@ pub fn edit(random: &mut Random, sheet: &SheetModel) -> Operation {
     Operation { call, data }
 }
 
+/// A random list of edits: most of them are made, so that one that is refused may stand anywhere;
+/// and now and then it is damaged.
+pub fn edit_list(random: &mut Random, sheet: &SheetModel) -> Operation {
+    let bytes = sheet.encode();
+    let wanted = match random.below(10) {
+        0 => 0,
+        1 | 2 => 1,
+        9 => random.between(9, 24),
+        _ => random.between(2, 8),
+    };
+    let mut data = Vec::new();
+    for _ in 0..wanted {
+        let operation = edit(random, sheet);
+        if let Some((item, edit)) = operation.edit() {
+            if !is_refused(&bytes, item, edit) || random.once_in(4) {
+                data.extend(entry(item.min(255) as u8, edit));
+            }
+        }
+    }
+    if random.once_in(5) {
+        data = damaged_list(random, data);
+    }
+    let call = Call::EditList;
+    Operation { call, data }
+}
+
 fn walk(random: &mut Random, sheet: &SheetModel) -> Operation {
     let data = match sheet.items.first() {
         Some(item) if random.once_in(2) => item.text().to_vec(),
@@ -323,17 +398,13 @@ pub fn operation(random: &mut Random, sheet: &SheetModel) -> Operation {
         14 => return walk(random, sheet),
         15 => {
             let edit = edit(random, sheet);
-            return Operation {
-                call: edit.call.on_sheet(),
-                ..edit
-            };
+            let (item, edit) = edit.edit().expect("an edit");
+            return Operation::on_sheet(item, edit);
         }
+        16 | 17 => return edit_list(random, sheet),
         _ => return edit(random, sheet),
     };
-    Operation {
-        call,
-        data: Vec::new(),
-    }
+    Operation::new(call)
 }
 
 /// An output's length: mostly the page's, sometimes more, sometimes too few.

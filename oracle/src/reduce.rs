@@ -2,8 +2,10 @@
 
 use crate::check::check;
 use crate::comparison::Case;
+use crate::edits::{entries, entry, pieces};
 use crate::model::{FontModel, ItemModel, SheetModel};
 use crate::operation::{Call, Operation};
+use crate::reply::Edit;
 
 /// The parts of a list with one piece left out: halves first, then smaller pieces.
 fn shorter<T: Clone>(list: &[T]) -> Vec<Vec<T>> {
@@ -142,12 +144,24 @@ fn without_item(case: &Case, model: &SheetModel, gone: usize) -> Option<Case> {
     let mut other = model.clone();
     other.items.remove(gone);
     let mut changed = on_sheet(case, model, &other);
+    let gone = gone as u32;
     for operation in &mut changed.operations {
         if let Some(item) = operation.call.item() {
-            if *item == gone as u32 {
+            if *item == gone {
                 return None;
             }
-            *item -= u32::from(*item > gone as u32);
+            *item -= u32::from(*item > gone);
+        }
+        if operation.call == Call::EditList {
+            for at in entry_places(&operation.data) {
+                let Some(item) = operation.data.get_mut(at + 1) else {
+                    continue;
+                };
+                if u32::from(*item) == gone {
+                    return None;
+                }
+                *item -= u8::from(u32::from(*item) > gone);
+            }
         }
     }
     Some(changed)
@@ -171,6 +185,57 @@ fn without_font(case: &Case, model: &SheetModel, gone: usize) -> Option<Case> {
     Some(changed)
 }
 
+/// Where the entries of a list start.
+fn entry_places(list: &[u8]) -> Vec<usize> {
+    let starts = pieces(list).into_iter().scan(0, |end, piece| {
+        let start = *end;
+        *end += piece.len();
+        Some(start)
+    });
+    starts.collect()
+}
+
+/// Fewer entries, and entries with simpler data.
+fn simpler_lists(list: &[u8]) -> Vec<Vec<u8>> {
+    let pieces = pieces(list);
+    let fewer = shorter(&pieces).into_iter();
+    let mut lists: Vec<Vec<u8>> = fewer.map(|pieces| pieces.concat()).collect();
+    for (at, piece) in pieces.iter().enumerate() {
+        let mut set = |piece: &[u8]| {
+            let mut other = pieces.clone();
+            other[at] = piece;
+            lists.push(other.concat());
+        };
+        for (item, edit) in entries(piece).unwrap_or_default() {
+            let entry = |edit| entry(item as u8, edit);
+            match edit {
+                Edit::Text(text) => simpler_texts(text)
+                    .iter()
+                    .for_each(|text| set(&entry(Edit::Text(text)))),
+                Edit::Place(x, y) => simpler_places(x, y)
+                    .into_iter()
+                    .for_each(|(x, y)| set(&entry(Edit::Place(x, y)))),
+                Edit::Style(style) => shorter(style)
+                    .iter()
+                    .for_each(|style| set(&entry(Edit::Style(style)))),
+            }
+        }
+    }
+    lists
+}
+
+fn simpler_places(x: i32, y: i32) -> [(i32, i32); 4] {
+    [(0, y), (x / 2, y), (x, 0), (x, y / 2)]
+}
+
+fn simpler_data(operation: &Operation) -> Vec<Vec<u8>> {
+    if operation.call == Call::EditList {
+        simpler_lists(&operation.data)
+    } else {
+        simpler_texts(&operation.data)
+    }
+}
+
 fn simpler_operations(case: &Case) -> Vec<Case> {
     let mut cases = Vec::new();
     let mut push = |operations: Vec<Operation>| {
@@ -181,13 +246,13 @@ fn simpler_operations(case: &Case) -> Vec<Case> {
     };
     shorter(&case.operations).into_iter().for_each(&mut push);
     for (at, operation) in case.operations.iter().enumerate() {
-        for data in simpler_texts(&operation.data) {
+        for data in simpler_data(operation) {
             let mut operations = case.operations.clone();
             operations[at].data = data;
             push(operations);
         }
         if let Call::SetPlace { item, x, y } = operation.call {
-            for (x, y) in [(0, y), (x / 2, y), (x, 0), (x, y / 2)] {
+            for (x, y) in simpler_places(x, y) {
                 let mut operations = case.operations.clone();
                 operations[at].call = Call::SetPlace { item, x, y };
                 push(operations);

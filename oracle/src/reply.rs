@@ -47,6 +47,18 @@ pub struct Area {
     pub height: u32,
 }
 
+/// A code, how many edits were made, and a rectangle.
+#[repr(C)]
+#[derive(Debug, Clone, Copy, PartialEq, Eq, Default)]
+pub struct Batch {
+    pub code: u32,
+    pub made: u32,
+    pub left: i32,
+    pub top: i32,
+    pub width: u32,
+    pub height: u32,
+}
+
 /// A code, and of the walker: 1 at the end, else the character, and the offset of the next.
 #[repr(C)]
 #[derive(Debug, Clone, Copy, PartialEq, Eq, Default)]
@@ -76,6 +88,7 @@ pub trait Station {
     fn draw(&self, sheet: &[u8], frame: &mut [u8]) -> u32;
     fn edit(&self, sheet: &mut [u8], frame: &mut [u8], item: u32, edit: Edit) -> Area;
     fn edit_on_sheet(&self, sheet: &mut [u8], item: u32, edit: Edit) -> Area;
+    fn edit_list(&self, sheet: &mut [u8], frame: &mut [u8], list: &[u8]) -> Batch;
     fn write_page(&self, sheet: &[u8], frame: &[u8], output: &mut [u8]) -> Number;
     fn walk(&self, line: &[u8], offset: usize) -> Step;
 }
@@ -116,6 +129,16 @@ impl Drawn {
 
 impl Area {
     /// A refused call: its number with zeros.
+    pub fn refused(code: u32) -> Self {
+        Self {
+            code,
+            ..Self::default()
+        }
+    }
+}
+
+impl Batch {
+    /// A list that is refused before any edit: its number with zeros.
     pub fn refused(code: u32) -> Self {
         Self {
             code,

@@ -1,13 +1,14 @@
-//! What is tried whole and not at random: every byte of small sheets set to every value, and every
-//! sequence that can start a character.
+//! What is tried whole and not at random: every byte of small sheets and of a list of edits set to
+//! every value, and every sequence that can start a character.
 
 use crate::comparison::Case;
+use crate::edits::entry;
 use crate::guard::Guarded;
 use crate::mappings::LARGEST;
 use crate::marked::{sample_font, sample_item};
 use crate::model::{FontModel, SheetModel};
 use crate::operation::{Call, Operation};
-use crate::reply::{Station, Step};
+use crate::reply::{Edit, Station, Step};
 
 /// Small sheets whose bytes are set one by one.
 fn small_sheets() -> Vec<SheetModel> {
@@ -172,21 +173,56 @@ fn extreme_cases() -> impl Iterator<Item = Case> {
     })
 }
 
+/// A list of the three edits, cut at every byte and with every byte set to every value; entries of
+/// each kind with any number of bytes, up to the most, behind another; and 10,000 entries. Each on
+/// the largest of the small sheets.
+fn list_cases() -> impl Iterator<Item = Case> {
+    let edits = [
+        entry(1, Edit::Text(b"A")),
+        entry(0, Edit::Place(1, -1)),
+        entry(1, Edit::Style(&[1, 3, 0, 0, 2, 4, 0, 0])),
+    ];
+    let good = edits.concat();
+    let cut = (0..good.len()).map({
+        let good = good.clone();
+        move |length| good[..length].to_vec()
+    });
+    let set = (0..good.len() * 256).map(move |number| {
+        let mut list = good.clone();
+        list[number / 256] = (number % 256) as u8;
+        list
+    });
+    let sizes = (0..40).chain([255, 256, 257, 65_534, 65_535]);
+    let sized = sizes.flat_map(|size: u16| {
+        [0, 1, 2, 3].map(|kind| {
+            let [low, high] = size.to_le_bytes();
+            let first = entry(0, Edit::Text(b""));
+            [first, vec![kind, 1, low, high], vec![0; size.into()]].concat()
+        })
+    });
+    let many = [edits[0].repeat(10_000)];
+    let model = small_sheets().pop().expect("a small sheet");
+    let lists = cut.chain(set).chain(sized).chain(many);
+    lists.map(move |data| {
+        let mut case = case(model.encode(), model.area(), []);
+        let call = Call::EditList;
+        case.operations.push(Operation { call, data });
+        case
+    })
+}
+
 /// The cases of every sweep.
 pub fn all_cases() -> impl Iterator<Item = Case> {
-    byte_cases().chain(index_cases()).chain(extreme_cases())
+    let sheets = byte_cases().chain(index_cases()).chain(extreme_cases());
+    sheets.chain(list_cases())
 }
 
 fn case(sheet: Vec<u8>, area: usize, calls: impl IntoIterator<Item = Call>) -> Case {
-    let operation = |call| Operation {
-        call,
-        data: Vec::new(),
-    };
     Case {
         sheet,
         frame: vec![0xee; area],
         output: Vec::new(),
-        operations: calls.into_iter().map(operation).collect(),
+        operations: calls.into_iter().map(Operation::new).collect(),
         at_end: true,
     }
 }

@@ -48,6 +48,14 @@ impl Watch for Tally {
                 self.range("box width", area.width as i32);
                 self.range("box height", area.height as i32);
             }
+            Reply::Batch(batch) => {
+                let stopped = batch.made > 0 && batch.code != 0;
+                let empty = batch.made > 0 && batch.width == 0;
+                self.range("edits made of a list", batch.made as i32);
+                self.count_if(batch.made > 1, "lists: several edits made");
+                self.count_if(stopped, "lists: stopped behind edits made");
+                self.count_if(empty, "lists: edits made, and an empty rectangle");
+            }
             Reply::Glyph(glyph) if glyph.code == 0 => {
                 self.count(format!("index: listed {}", glyph.listed));
             }

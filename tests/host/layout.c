@@ -75,6 +75,16 @@ static void box_is(const char *call, station_box r, uint32_t code, int32_t left,
     same(call, "height", r.height, height);
 }
 
+static void batch_is(const char *call, station_batch r, uint32_t code, uint32_t made, int32_t left, int32_t top, uint32_t width, uint32_t height)
+{
+    same(call, "code", r.code, code);
+    same(call, "made", r.made, made);
+    same(call, "left", r.left, left);
+    same(call, "top", r.top, top);
+    same(call, "width", r.width, width);
+    same(call, "height", r.height, height);
+}
+
 static void step_is(const char *call, station_step r, uint32_t code, uint32_t ended, uint32_t character, size_t next)
 {
     same(call, "code", r.code, code);
@@ -342,6 +352,23 @@ static void try_edits(int with_frame)
     same("edited sheet", "code", station_check(sheet, LENGTH), STATION_OK);
 }
 
+/* The place and the text of try_edits in one list, so that the reply's numbers differ, then a style of no bytes, which stops it. */
+static void try_list(void)
+{
+    static const uint8_t list[] = {1, 0, 8, 0, 9, 0, 0, 0, 17, 0, 0, 0, 0, 0, 4, 0, 'A', 'B', 'B', 'A', 0, 1, 0, 0, 2, 0, 0, 0};
+    make_sheet();
+    put(ITEM_RECORD + STATION_ITEM_AT_X, 2, 20);
+    put(ITEM_RECORD + STATION_ITEM_AT_Y, 2, 3);
+    same("station_draw", "code", station_draw(sheet, LENGTH, frame, PIXELS), 0);
+    batch_is("station_edit_list", station_edit_list(sheet, LENGTH, frame, PIXELS, list, sizeof list), STATION_REFUSED_STYLE, 3, 9, 2, 23, 21);
+    same("station_edit_list", "x", stored(ITEM_RECORD + STATION_ITEM_AT_X), 9);
+    same("station_edit_list", "y", stored(ITEM_RECORD + STATION_ITEM_AT_Y), 17);
+    same("station_edit_list", "text", memcmp(sheet + SLOT_0, "ABBA\0", SLOT_1 - SLOT_0), 0);
+    same("station_edit_list", "length", stored(ITEM_RECORD_1 + STATION_ITEM_AT_TEXT_LENGTH), 0);
+    same("station_edit_list", "pixel (9, 16)", frame[16 * WIDTH + 9], 9);
+    same("edited sheet", "code", station_check(sheet, LENGTH), STATION_OK);
+}
+
 /* The check's refusals, each by a change of some bytes. */
 static void try_check(void)
 {
@@ -362,12 +389,14 @@ static void try_check(void)
         {ITEM_RECORD + STATION_ITEM_AT_STYLE, "\2", 1, STATION_REFUSED_ITEM},
         {SLOT_0, "\xFF", 1, STATION_REFUSED_TEXT_ILL_FORMED},
     };
+    static const uint8_t list[] = {0, 0, 0, 0};
     for (size_t k = 0; k < sizeof changes / sizeof changes[0]; k++) {
         make_sheet();
         memcpy(sheet + changes[k].at, changes[k].bytes, changes[k].size);
         same("station_check of a changed sheet", "code", station_check(sheet, LENGTH), changes[k].code);
         glyph_is("station_index in a changed sheet", station_index(sheet, LENGTH, 0, 'A'), changes[k].code, 0, 0);
         drawn_is("station_draw_item in a changed sheet", station_draw_item(sheet, LENGTH, frame, PIXELS, 0), changes[k].code, 0, 0, 0);
+        batch_is("station_edit_list in a changed sheet", station_edit_list(sheet, LENGTH, frame, PIXELS, list, sizeof list), changes[k].code, 0, 0, 0, 0, 0);
     }
 }
 
@@ -377,6 +406,7 @@ static void try_refused_calls(void)
     static const uint8_t long_text[] = "ABABABA";
     static const uint8_t bad_text[] = {'A', 0xC3};
     static const uint8_t style[STATION_STYLE_LENGTH] = {1, 0, 2, 0, 0, 0, 0, 0};
+    static const uint8_t list[] = {0, 2, 0, 0, 3, 0, 0, 0}; /* an item that is not there, then an unknown kind */
     static uint8_t sheet_before[LENGTH], frame_before[PIXELS], output_before[sizeof output];
     make_sheet();
     memset(frame, 33, sizeof frame);
@@ -401,6 +431,9 @@ static void try_refused_calls(void)
     box_is("station_set_place, y", station_set_place(sheet, LENGTH, frame, PIXELS, 0, 0, INT32_MAX), STATION_REFUSED_PLACE, 0, 0, 0, 0);
     box_is("station_set_style, mode", station_set_style(sheet, LENGTH, frame, PIXELS, 0, style, 8), STATION_REFUSED_STYLE, 0, 0, 0, 0);
     box_is("station_set_style of 7 bytes", station_set_style(sheet, LENGTH, frame, PIXELS, 0, style, 7), STATION_REFUSED_STYLE, 0, 0, 0, 0);
+    batch_is("station_edit_list on a short frame", station_edit_list(sheet, LENGTH, frame, PIXELS - 1, list, 8), STATION_REFUSED_FRAME_LENGTH, 0, 0, 0, 0, 0);
+    batch_is("station_edit_list, kind", station_edit_list(sheet, LENGTH, frame, PIXELS, list, 8), STATION_REFUSED_LIST, 0, 0, 0, 0, 0);
+    batch_is("station_edit_list, item", station_edit_list(sheet, LENGTH, frame, PIXELS, list, 4), STATION_REFUSED_NO_SUCH, 0, 0, 0, 0, 0);
     box_is("station_set_text_on_sheet", station_set_text_on_sheet(sheet, LENGTH, 0, long_text, 7), STATION_REFUSED_NEW_TEXT_TOO_LONG, 0, 0, 0, 0);
     box_is("station_set_place_on_sheet", station_set_place_on_sheet(sheet, LENGTH, 0, 32768, 0), STATION_REFUSED_PLACE, 0, 0, 0, 0);
     box_is("station_set_style_on_sheet", station_set_style_on_sheet(sheet, LENGTH, 2, style, 8), STATION_REFUSED_NO_SUCH, 0, 0, 0, 0);
@@ -426,6 +459,9 @@ static void try_empty_slices(uint8_t *none)
     drawn_is("no frame, item", station_draw_item(sheet, LENGTH, none, 0, 0), STATION_REFUSED_FRAME_LENGTH, 0, 0, 0);
     position_is("no frame, whitespace", station_draw_whitespace(sheet, LENGTH, none, 0, 0, 1), STATION_REFUSED_FRAME_LENGTH, 0, 0);
     box_is("no frame, place", station_set_place(sheet, LENGTH, none, 0, 0, 1, 1), STATION_REFUSED_FRAME_LENGTH, 0, 0, 0, 0);
+    batch_is("no sheet, list", station_edit_list(none, 0, frame, PIXELS, none, 0), STATION_REFUSED_LENGTH, 0, 0, 0, 0, 0);
+    batch_is("no frame, list", station_edit_list(sheet, LENGTH, none, 0, none, 0), STATION_REFUSED_FRAME_LENGTH, 0, 0, 0, 0, 0);
+    batch_is("no list", station_edit_list(sheet, LENGTH, frame, PIXELS, none, 0), STATION_OK, 0, 0, 0, 0, 0);
     number_is("no frame, page", station_write_page(sheet, LENGTH, none, 0, output, sizeof output), STATION_REFUSED_FRAME_LENGTH, 0);
     number_is("no output", station_write_page(sheet, LENGTH, frame, PIXELS, none, 0), STATION_REFUSED_OUTPUT_TOO_SHORT, 0);
     box_is("no style", station_set_style(sheet, LENGTH, frame, PIXELS, 0, none, 0), STATION_REFUSED_STYLE, 0, 0, 0, 0);
@@ -452,6 +488,7 @@ int main(void)
     try_bdf();
     try_edits(1);
     try_edits(0);
+    try_list();
     try_check();
     try_refused_calls();
     try_empty_slices(&some);

@@ -10,15 +10,16 @@
 #include <string.h>
 #include <ucontext.h>
 
-enum { PROMISED = 4096, STACK = 65536, PAINTED = 16384, PATTERN = 0xA5, CALLS = 16 };
+enum { PROMISED = 4096, STACK = 65536, PAINTED = 16384, PATTERN = 0xA5, CALLS = 17, LIST = 64 };
 
 static uint8_t sheet[2 * STATION_MOST_SHEET], copy[2 * STATION_MOST_SHEET];
 static uint8_t frame[STATION_MOST_FRAME], output[STATION_MOST_PAGE];
 static uint8_t stack[STACK];
+static uint8_t list[LIST];
 
 /* A call's arguments. Each call takes what it needs of them. */
 static struct {
-    size_t sheet_length, frame_length, output_length, data_length, offset;
+    size_t sheet_length, frame_length, output_length, data_length, list_length, offset;
     uint32_t number, character;
     int32_t x, y;
     const uint8_t *data;
@@ -45,6 +46,7 @@ static void call_set_style(void)
 {
     station_set_style(copy, given.sheet_length, frame, given.frame_length, given.number, given.data, given.data_length);
 }
+static void call_edit_list(void) { station_edit_list(copy, given.sheet_length, frame, given.frame_length, list, given.list_length); }
 static void call_text_on_sheet(void) { station_set_text_on_sheet(copy, given.sheet_length, given.number, given.data, given.data_length); }
 static void call_place_on_sheet(void) { station_set_place_on_sheet(copy, given.sheet_length, given.number, given.x, given.y); }
 static void call_style_on_sheet(void) { station_set_style_on_sheet(copy, given.sheet_length, given.number, given.data, given.data_length); }
@@ -66,6 +68,7 @@ static const struct {
     {"station_set_text", call_set_text},
     {"station_set_place", call_set_place},
     {"station_set_style", call_set_style},
+    {"station_edit_list", call_edit_list},
     {"station_set_text_on_sheet", call_text_on_sheet},
     {"station_set_place_on_sheet", call_place_on_sheet},
     {"station_set_style_on_sheet", call_style_on_sheet},
@@ -97,9 +100,32 @@ static size_t depth_of(void (*run)(void))
     return STACK - lowest;
 }
 
+static void add_entry(uint8_t kind, const uint8_t *data, size_t length)
+{
+    uint8_t head[] = {kind, (uint8_t)given.number, (uint8_t)length, (uint8_t)(length >> 8)};
+    memcpy(list + given.list_length, head, sizeof head);
+    memcpy(list + given.list_length + sizeof head, data, length);
+    given.list_length += sizeof head + length;
+}
+
+/* A place, then the data as a style if it is as long as one, or else as a text, then the data as a text. */
+static void make_list(void)
+{
+    uint8_t place[8];
+    for (int k = 0; k < 4; k++) {
+        place[k] = (uint8_t)((uint32_t)given.x >> (8 * k));
+        place[4 + k] = (uint8_t)((uint32_t)given.y >> (8 * k));
+    }
+    given.list_length = 0;
+    add_entry(1, place, sizeof place);
+    add_entry(given.data_length == STATION_STYLE_LENGTH ? 2 : 0, given.data, given.data_length);
+    add_entry(0, given.data, given.data_length);
+}
+
 /* Asks every call with the arguments as given, each on a fresh copy of the sheet. */
 static void ask_all(void)
 {
+    make_list();
     for (int k = 0; k < CALLS; k++) {
         memcpy(copy, sheet, given.sheet_length);
         size_t depth = depth_of(calls[k].run);

@@ -5,6 +5,7 @@
 // each multiple of the step.
 use calls::replies::refused_drawn;
 use check::same;
+use entries::signed;
 use libc::STDIN_FILENO;
 use numbers::byte_or_zero;
 use programs::checksum;
@@ -17,7 +18,6 @@ use replay::after;
 use replay::length_at;
 use replay::part;
 use replay::rest;
-use replay::signed;
 use replay::store;
 use replay::u16_of;
 use replay::u32_of;

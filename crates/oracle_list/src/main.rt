@@ -1,7 +1,8 @@
 // Replays a list of calls with the answers of the Rust crate and of the formulas of docs/SHEET.md, read from standard input: each case on
-// slices of its own, each call on what the call before left. The reply's five numbers and every byte of sheet, frame and output are
+// slices of its own, each call on what the call before left. The reply's six numbers and every byte of sheet, frame and output are
 // compared after each call. `oracle/src/list.rs` has the list's form and makes it.
 use check::same;
+use entries::signed;
 use geometry::fill_row;
 use libc::STDIN_FILENO;
 use numbers::byte_or_zero;
@@ -13,11 +14,11 @@ use replay::edit_on_sheet;
 use replay::least;
 use replay::part;
 use replay::rest;
-use replay::same_reply;
-use replay::signed;
+use replay::same_batch;
 use replay::store;
 use replay::u16_of;
 use replay::u32_of;
+use station::Batch;
 use station::Box;
 use station::Drawn;
 use station::Glyph;
@@ -49,7 +50,7 @@ fn signed_at(bytes: &[u8], at: usize) -> i32 {
     signed(number_at(bytes, at))
 }
 
-// A call's data: the new text, the new style, or the walker's line.
+// A call's data: the new text, the new style, the list of edits, or the walker's line.
 fn data_of(call: &[u8]) -> &[u8] {
     part(call, 15, length_at(call, 13))
 }
@@ -60,13 +61,14 @@ fn answer_of(call: &[u8]) -> &[u8] {
 }
 
 // The stored reply.
-fn reply_of(answer: &[u8]) -> Box {
-    Box {
+fn reply_of(answer: &[u8]) -> Batch {
+    Batch {
         code: number_at(answer, 0),
-        left: signed_at(answer, 4),
-        top: signed_at(answer, 8),
-        width: number_at(answer, 12),
-        height: number_at(answer, 16),
+        made: number_at(answer, 4),
+        left: signed_at(answer, 8),
+        top: signed_at(answer, 12),
+        width: number_at(answer, 16),
+        height: number_at(answer, 20),
     }
 }
 
@@ -96,7 +98,7 @@ fn call_size(list: &[u8], at: usize) -> usize
     ensures { λ r. ⌜ r ≤ length (now (list .entry)) - at ⌝ }
 {
     let call = rest(list, at);
-    let head = 35 + length_at(call, 13);
+    let head = 39 + length_at(call, 13);
     let size = head + changes_size(rest(call, head));
     if size > call.len() {
         return 0;
@@ -105,6 +107,17 @@ fn call_size(list: &[u8], at: usize) -> usize
 }
 
 // ---- replies in one form: zeros for the numbers that a reply lacks
+
+fn batch_reply(reply: Box) -> Batch {
+    Batch {
+        code: reply.code,
+        made: 0,
+        left: reply.left,
+        top: reply.top,
+        width: reply.width,
+        height: reply.height,
+    }
+}
 
 fn code_reply(code: u32) -> Box {
     Box {
@@ -228,9 +241,8 @@ fn change_on_sheet(sheet: &mut [u8], kind: u8, call: &[u8]) -> Box {
     edit_on_sheet(sheet, kind, item, x, y, data_of(call))
 }
 
-// Makes a call of the list.
-fn make_call(sheet: &mut [u8], frame: &mut [u8], output: &mut [u8], call: &[u8]) -> Box {
-    let kind = byte_or_zero(call, 0);
+// Makes a call of the list, but one that makes a list of edits.
+fn make_one(sheet: &mut [u8], frame: &mut [u8], output: &mut [u8], kind: u8, call: &[u8]) -> Box {
     if kind < 7 {
         return draw(&sheet[..], frame, kind, call);
     }
@@ -241,6 +253,15 @@ fn make_call(sheet: &mut [u8], frame: &mut [u8], output: &mut [u8], call: &[u8])
         return change_on_sheet(sheet, kind - 10, call);
     }
     write(&sheet[..], &frame[..], output, kind, call)
+}
+
+// Makes a call of the list.
+fn make_call(sheet: &mut [u8], frame: &mut [u8], output: &mut [u8], call: &[u8]) -> Batch {
+    let kind = byte_or_zero(call, 0);
+    if kind == 15 {
+        return station::station_edit_list(sheet, frame, data_of(call));
+    }
+    batch_reply(make_one(sheet, frame, output, kind, call))
 }
 
 // ---- the comparison
@@ -313,7 +334,7 @@ fn keep(old: &mut [u8], sheet: &[u8], frame: &[u8], output: &[u8]) {
 
 // Compares a call's outcome with the list. What stood before the call was kept in `old`.
 fn compare_call(
-    reply: Box,
+    reply: Batch,
     sheet: &[u8],
     frame: &[u8],
     output: &[u8],
@@ -321,13 +342,13 @@ fn compare_call(
     call: &[u8],
 ) -> Same {
     let answer = answer_of(call);
-    let of_sheet = rest(answer, 20);
+    let of_sheet = rest(answer, 24);
     let of_frame = after_change(of_sheet);
     let of_output = after_change(of_frame);
     let old_frame = rest(old, sheet.len());
     let old_output = rest(old_frame, frame.len());
     Same {
-        reply: same_reply(reply, reply_of(answer)),
+        reply: same_batch(reply, reply_of(answer)),
         sheet: as_stored(sheet, part(old, 0, sheet.len()), of_sheet),
         frame: as_stored(frame, part(old_frame, 0, frame.len()), of_frame),
         output: as_stored(output, part(old_output, 0, output.len()), of_output),
@@ -366,22 +387,22 @@ fn write_difference(case: u64, number: u64, kind: u8, same: Same) {
     write_word(b"\n");
 }
 
-// Adds one to a count: of the answers to a kind of call, at 15 of refusals, at 16 of differences.
-fn count(counts: &mut [u64; 17], at: usize) {
-    if at < 17 {
+// Adds one to a count: of the answers to a kind of call, at 16 of refusals, at 17 of differences.
+fn count(counts: &mut [u64; 18], at: usize) {
+    if at < 18 {
         counts[at] = std::num::wrapping_add_u64(counts[at], 1);
     }
 }
 
 // Counts a call, and writes what differs.
-fn count_call(counts: &mut [u64; 17], case: u64, number: u64, call: &[u8], same: Same) {
+fn count_call(counts: &mut [u64; 18], case: u64, number: u64, call: &[u8], same: Same) {
     let kind = byte_or_zero(call, 0);
     count(counts, kind as usize);
     if number_at(answer_of(call), 0) != 0 {
-        count(counts, 15);
+        count(counts, 16);
     }
     if !all_same(same) {
-        count(counts, 16);
+        count(counts, 17);
         write_difference(case, number, kind, same);
     }
 }
@@ -394,7 +415,7 @@ fn replay_call(
     frame: &mut [u8],
     output: &mut [u8],
     old: &mut [u8],
-    counts: &mut [u64; 17],
+    counts: &mut [u64; 18],
     call: &[u8],
     case: u64,
     number: u64,
@@ -411,7 +432,7 @@ fn replay_calls(
     frame: &mut [u8],
     output: &mut [u8],
     old: &mut [u8],
-    counts: &mut [u64; 17],
+    counts: &mut [u64; 18],
     list: &[u8],
     from: usize,
     end: usize,
@@ -470,7 +491,7 @@ fn on_slices(
     frame: &mut [u8],
     output: &mut [u8],
     old: &mut [u8],
-    counts: &mut [u64; 17],
+    counts: &mut [u64; 18],
     list: &[u8],
     case: &[u8],
     calls: usize,
@@ -489,7 +510,7 @@ fn with_output(
     list: &[u8],
     case: &[u8],
     calls: usize,
-    counts: &mut [u64; 17],
+    counts: &mut [u64; 18],
     number: u64,
     sheet: &mut [u8],
     frame: &mut [u8],
@@ -519,7 +540,7 @@ fn with_frame(
     list: &[u8],
     case: &[u8],
     calls: usize,
-    counts: &mut [u64; 17],
+    counts: &mut [u64; 18],
     number: u64,
     sheet: &mut [u8],
     f: usize,
@@ -538,7 +559,7 @@ fn with_slices(
     list: &[u8],
     case: &[u8],
     calls: usize,
-    counts: &mut [u64; 17],
+    counts: &mut [u64; 18],
     number: u64,
     s: usize,
     f: usize,
@@ -553,7 +574,7 @@ fn with_slices(
 }
 
 // Replays the case at an offset; the offset after it, or 0 where the list ends in it.
-fn replay_case(list: &[u8], at: usize, counts: &mut [u64; 17], number: u64) -> usize
+fn replay_case(list: &[u8], at: usize, counts: &mut [u64; 18], number: u64) -> usize
     requires { ⌜ at ≤ length (now list) ⌝ }
     ensures { λ r. ⌜ r ≤ length (now (list .entry)) ⌝ }
 {
@@ -570,7 +591,7 @@ fn replay_case(list: &[u8], at: usize, counts: &mut [u64; 17], number: u64) -> u
 }
 
 // Replays the cases, and gives their number.
-fn replay_cases(list: &[u8], counts: &mut [u64; 17]) -> u64 {
+fn replay_cases(list: &[u8], counts: &mut [u64; 18]) -> u64 {
     let mut number = 0;
     let mut at = least(12, list.len());
     while at < list.len() {
@@ -586,29 +607,29 @@ fn replay_cases(list: &[u8], counts: &mut [u64; 17]) -> u64 {
 }
 
 // Writes how often each kind of call was answered.
-fn write_kinds(counts: [u64; 17]) {
+fn write_kinds(counts: [u64; 18]) {
     let mut kind: usize = 0;
-    while kind < 15 {
+    while kind < 16 {
         write_named(b"kind", kind as u64);
         write_line(b":", counts[kind]);
         kind += 1;
     }
 }
 
-// Whether the list's first word is 'WPL1', and its second its length.
+// Whether the list's first word is 'WPL2', and its second its length.
 fn is_list(list: &[u8]) -> bool {
-    if number_at(list, 0) != 0x314C5057 {
+    if number_at(list, 0) != 0x324C5057 {
         return false;
     }
     number_at(list, 4) as usize == list.len()
 }
 
 // Writes what was met.
-fn write_counts(cases: u64, counts: [u64; 17]) {
+fn write_counts(cases: u64, counts: [u64; 18]) {
     write_line(b"cases", cases);
     write_kinds(counts);
-    write_line(b"refused", counts[15]);
-    write_line(b"differences", counts[16]);
+    write_line(b"refused", counts[16]);
+    write_line(b"differences", counts[17]);
 }
 
 // Replays a list, and writes what was met.
@@ -617,7 +638,7 @@ fn replay_list(list: &[u8]) {
         write_word(b"no list\n");
         return;
     }
-    let mut counts = [0u64; 17];
+    let mut counts = [0u64; 18];
     let cases = replay_cases(list, &mut counts);
     write_counts(cases, counts);
     if number_at(list, 8) as u64 != cases {
@@ -626,7 +647,7 @@ fn replay_list(list: &[u8]) {
 }
 
 fn main() {
-    let mut list = [0u8; 262144];
+    let mut list = [0u8; 294912];
     let n = io::read_full(STDIN_FILENO, &mut list);
     replay_list(&list[..n]);
 }

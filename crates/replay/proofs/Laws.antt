@@ -1,17 +1,17 @@
--- Laws of parts, of stored bytes, of signed numbers and of the kinds of edits. Assumes nothing.
-use Prim.Native.Nat.{ℕ, zero, suc, _+_, _-_, _^_, _≤_, _<_, min}
+-- Laws of parts, of stored bytes, of replies and of the kinds of edits. Assumes nothing.
+use Prim.Native.Nat.{ℕ, _+_, _-_, _≤_, _<_, min}
 use native.Mathlib.Decide.{decLe}
 use native.Mathlib.Omega.{arith}
 use mathlib.Core.Path.{_≡_, refl, sym, ap, _∙_}
-use mathlib.Core.Bool.{true, false}
+use mathlib.Core.Bool.{Bool, true, false}
 use mathlib.Core.List.{List, [], _∷_, _++_, append-assoc, append-nil}
 use lib.Dec.{leb, eqb}
-use lib.IntN.{ℤ, pos, negsuc, _-ℤ_}
+use lib.IntN.{ℤ}
 use lib.ListN.{length, getD, take, drop, length-take, length-drop, drop-of-length-le}
 use lib.Seq.{sets-eq, take-all, take-length, drop-drop}
 use mir.Syntax.{w32}
 use mir.Val.{toZ, ofZ, SFits}
-use mir.Facts.{toZ-pos, toZ-ofZ}
+use mir.Facts.{toZ-ofZ}
 use borrow.Author.Tests.{le-leb, lt-leb, eq-eqb, ne-eqb, eqb-true}
 use Rattle.sheet.specs.Edits.{Edit, newText, newPlace, newStyle}
 use Rattle.calls.specs.declared.Box.{Box}
@@ -66,21 +66,6 @@ module _ (l bytes : List ℕ) (at : ℕ) where
       let p : part ≡ bytes = e ∙ rw (n, d, take-length bytes) (append-nil bytes) in
       rw (le-leb (at + length bytes) (length l) h) (refl, rw (p, n, drop-drop (length bytes) at l, ← append-assoc (take at l) bytes (drop (at + length bytes) l)) (sym (sets-eq bytes l at h)))
 
--- ---- two's complement
-
-below-zero : (m : ℕ) → m < 2 ^ 31 → toZ w32 (2 ^ 32 - 1) -ℤ toZ w32 m ≡ negsuc m
-below-zero m h = rw (toZ-pos w32 {n = m} h) (from-one m)
-  where
-    from-one : (k : ℕ) → negsuc 0 -ℤ pos k ≡ negsuc k
-    from-one zero = refl
-    from-one (suc k) = ap negsuc (omega arith)
-
-pub below-fits : (n : ℕ) → 2 ^ 31 ≤ n → n < 2 ^ 32 → SFits w32 (toZ w32 (2 ^ 32 - 1) -ℤ toZ w32 (4_294_967_295 - n))
-below-fits n g h = rw (below-zero (4_294_967_295 - n) (omega arith)) (record { sfits = omega arith })
-
-pub below-is : (n : ℕ) → 2 ^ 31 ≤ n → n < 2 ^ 32 → toZ w32 (ofZ w32 (toZ w32 (2 ^ 32 - 1) -ℤ toZ w32 (4_294_967_295 - n))) ≡ toZ w32 n
-below-is n g h = rw (below-zero (4_294_967_295 - n) (omega arith)) (let e : 2 ^ 32 - suc (4_294_967_295 - n) ≡ n = omega arith in ap (toZ w32) e)
-
 -- ---- the numbers of two replies
 
 pub unlike : (k : ℕ) (a b : List ℕ) → (getD a k 0 ≡ getD b k 0 → ⊥) → (false ≡ true → a ≡ b) × (a ≡ b → false ≡ true)
@@ -89,6 +74,11 @@ unlike k a b h = ((λ e. absurd (let z : _≡_ {A = ℕ} 0 1 = cc in omega arith
 pub alike : {k k′ x x′ y y′ z z′ : ℕ} (w w′ : ℕ) → k ≡ k′ → x ≡ x′ → y ≡ y′ → z ≡ z′
     → (eqb w w′ ≡ true → k ∷ x ∷ y ∷ z ∷ w ∷ [] ≡ k′ ∷ x′ ∷ y′ ∷ z′ ∷ w′ ∷ []) × (k ∷ x ∷ y ∷ z ∷ w ∷ [] ≡ k′ ∷ x′ ∷ y′ ∷ z′ ∷ w′ ∷ [] → eqb w w′ ≡ true)
 alike w w′ p q r s = ((λ e. let t = eqb-true w w′ e in rw (p, q, r, s, t)), (λ e. eq-eqb w w′ (ap (λ (l : List ℕ). getD l 4 0) e)))
+
+-- of two batches, whose first numbers are alike, by the lists of the others as a comparison took them
+pub batches : {m m′ : ℕ} {a a′ b b′ : List ℕ} {same : Bool} → m ≡ m′ → a ≡ b → a′ ≡ b′ → (same ≡ true → a ≡ a′) × (a ≡ a′ → same ≡ true)
+    → (same ≡ true → m ∷ b ≡ m′ ∷ b′) × (m ∷ b ≡ m′ ∷ b′ → same ≡ true)
+batches h p q s = ((λ t. let e = sym p ∙ (s .0 t ∙ q) in rw (h, e)), (λ e. s .1 (p ∙ (ap (drop 1) e ∙ sym q))))
 
 -- ---- the kinds of edits
 

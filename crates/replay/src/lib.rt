@@ -2,17 +2,16 @@
 // A list that ends early has zeros for the missing bytes, and shorter parts.
 use numbers::byte_or_zero;
 use numbers::wide;
+use station::Batch;
 use station::Box;
 ghost use mathlib.Core.Path.{_≡_};
 ghost use mathlib.Core.Bool.{true};
 ghost use Prim.Native.Nat.{_+_, _*_, _^_, _<_, _≤_, min};
 ghost use lib.Dec.{leb};
 ghost use lib.ListN.{length, getD, take, drop};
-ghost use mir.Syntax.{w32};
-ghost use mir.Val.{toZ};
 ghost use Rattle.calls.specs.Calls.{editReply, editSheet, editFrame, onSheetReply, onSheetSheet};
 ghost use Rattle.replay.specs.Edits.{editOf};
-ghost use Rattle.replay.specs.Replies.{numbers};
+ghost use Rattle.replay.specs.Replies.{numbers, areaNumbers, batchNumbers};
 ghost use Rattle.replay.specs.Stored.{stored};
 
 // The number that the first two bytes store.
@@ -30,17 +29,6 @@ pub fn u32_of(bytes: &[u8]) -> u32
         + 256 * wide(byte_or_zero(bytes, 1))
         + 65536 * wide(byte_or_zero(bytes, 2))
         + 16777216 * wide(byte_or_zero(bytes, 3))
-}
-
-// The signed number whose 32 bits in two's complement are those of `n`.
-pub fn signed(n: u32) -> i32
-    ensures { λ r. ⌜ r ≡ toZ w32 n ⌝ }
-{
-    if n < 2147483648 {
-        return n as i32;
-    }
-    let rest = 4294967295 - n;
-    -1 - rest as i32
 }
 
 // The smaller of two numbers.
@@ -123,6 +111,29 @@ pub fn same_reply(a: Box, b: Box) -> bool
         return false;
     }
     a.height == b.height
+}
+
+// A batch's code and rectangle.
+pub fn area_of(reply: Batch) -> Box
+    ensures { λ r. ⌜ numbers r ≡ areaNumbers reply ⌝ }
+{
+    Box {
+        code: reply.code,
+        left: reply.left,
+        top: reply.top,
+        width: reply.width,
+        height: reply.height,
+    }
+}
+
+// Whether two replies to batches are the same.
+pub fn same_batch(a: Batch, b: Batch) -> bool
+    ensures { λ r. ⌜ (r ≡ true → batchNumbers a ≡ batchNumbers b) × (batchNumbers a ≡ batchNumbers b → r ≡ true) ⌝ }
+{
+    if a.made != b.made {
+        return false;
+    }
+    same_reply(area_of(a), area_of(b))
 }
 
 // Makes an edit with a frame: 0 a new text, 1 a new place, any other kind a new style.

@@ -24,17 +24,20 @@ loop-holds c = (search needs, search needs, search needs, search needs, search n
 add-number : tie.Need-add-number Inv-loop μ-loop
 add-number c = search needs
 
+rest-requires : tie.Need-rest-requires Inv-loop μ-loop
+rest-requires c κs = search needs
+
 write-head-requires : tie.Need-write-head-requires Inv-loop μ-loop
 write-head-requires c κs = search needs
 
-rest-requires : tie.Need-rest-requires Inv-loop μ-loop
-rest-requires c κs = search needs
+rest-requires-2 : tie.Need-rest-requires-2 Inv-loop μ-loop
+rest-requires-2 c κs = search needs
 
 make-edit-requires : tie.Need-make-edit-requires Inv-loop μ-loop
 make-edit-requires c κs = search needs
 
-rest-requires-2 : tie.Need-rest-requires-2 Inv-loop μ-loop
-rest-requires-2 c κs = search needs
+rest-requires-3 : tie.Need-rest-requires-3 Inv-loop μ-loop
+rest-requires-3 c κs = search needs
 
 edit-size-requires : tie.Need-edit-size-requires Inv-loop μ-loop
 edit-size-requires c κs = search needs
@@ -71,10 +74,11 @@ make-edits-spec =
     μ-loop
     loop-holds
     add-number
-    write-head-requires
     rest-requires
-    make-edit-requires
+    write-head-requires
     rest-requires-2
+    make-edit-requires
+    rest-requires-3
     edit-size-requires
     after-requires
     loop-less

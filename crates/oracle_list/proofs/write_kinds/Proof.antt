@@ -5,10 +5,10 @@ use Rattle.oracle_list.proofs.write_kinds.Statement.{statement}
 use Rattle.oracle_list.proofs.write_kinds.Tie as tie
 
 abbrev Inv-loop : tie.InvT-loop
-Inv-loop counts kind₀ t4 t5 kind = kind ≤ 15
+Inv-loop counts kind₀ t4 t5 kind = kind ≤ 16
 
 abbrev μ-loop : tie.MeasureT-loop
-μ-loop counts kind₀ t4 t5 kind = 15 - kind
+μ-loop counts kind₀ t4 t5 kind = 16 - kind
 
 loop-holds : tie.Need-loop-holds Inv-loop μ-loop
 loop-holds c = search needs
