@@ -5,7 +5,7 @@
 
    'lookups' has the largest mapping that 64 full slots leave room for, ranges of one character with a single one between them, and texts
    of characters that it does not list, all of them on the frame. 'pixels' has cells of 64 by 64, and in each item 28 lines of 8 at one place.
-   Each figure is the best of three. */
+   'edit_list' gives each of the 64 items a full text. Each figure is the best of three. */
 #define _POSIX_C_SOURCE 199309L
 #include "station.h"
 #include <stdio.h>
@@ -14,7 +14,7 @@
 
 enum { ITEMS = 64, SLOT = 256, MOST = 65536 };
 
-static uint8_t sheet[MOST], kept[MOST], frame[MOST], output[STATION_MOST_PAGE], text[SLOT];
+static uint8_t sheet[MOST], kept[MOST], frame[MOST], output[STATION_MOST_PAGE], text[SLOT], list[ITEMS][4 + SLOT];
 static size_t length;
 
 static void store(size_t at, uint32_t n, int bytes) {
@@ -40,6 +40,10 @@ static size_t build(uint32_t width, uint32_t height, uint32_t cell, int long_map
     for (size_t i = 0; i < SLOT; i++) sheet[slot + i] = long_mapping ? 'z' : i % 9 == 8 ? '\n' : 'A';
   }
   memcpy(text, sheet + at, SLOT);
+  for (uint32_t n = 0; n < ITEMS; n++) {
+    list[n][0] = 0, list[n][1] = (uint8_t)n, list[n][2] = SLOT % 256, list[n][3] = SLOT / 256;
+    memcpy(list[n] + 4, text, SLOT);
+  }
   memcpy(kept, sheet, sizeof sheet);
   return at + ITEMS * SLOT;
 }
@@ -54,6 +58,7 @@ static uint32_t item(void) { return station_draw_item(sheet, length, frame, pixe
 static uint32_t whitespace(void) { return station_draw_whitespace(sheet, length, frame, pixels, 0, 65535).code; }
 static uint32_t draw(void) { return station_draw(sheet, length, frame, pixels); }
 static uint32_t edit(void) { return station_set_text(sheet, length, frame, pixels, 0, text, SLOT).code; }
+static uint32_t edits(void) { return station_edit_list(sheet, length, frame, pixels, (const uint8_t *)list, sizeof list).code; }
 static uint32_t edit_alone(void) { return station_set_text_on_sheet(sheet, length, 0, text, SLOT).code; }
 static uint32_t page(void) { return station_write_page(sheet, length, frame, pixels, output, sizeof output).code; }
 
@@ -74,7 +79,8 @@ static double microseconds(uint32_t (*call)(void)) {
 int main(void) {
   static const struct { const char *name; uint32_t (*call)(void); } calls[] = {
       {"check", check}, {"index", find}, {"contains", contains}, {"bounding_box", box}, {"draw_item", item},
-      {"draw_whitespace", whitespace}, {"draw", draw}, {"set_text", edit}, {"set_text_on_sheet", edit_alone}, {"write_page", page}};
+      {"draw_whitespace", whitespace}, {"draw", draw}, {"set_text", edit}, {"edit_list", edits}, {"set_text_on_sheet", edit_alone},
+      {"write_page", page}};
   double times[2][sizeof calls / sizeof *calls];
   for (int sort = 0; sort < 2; sort++) {
     uint32_t width = 512, height = 128;

@@ -7,6 +7,7 @@
 #[path = "../../oracle/src/host.rs"]
 mod host;
 mod pages;
+mod reading;
 mod timing;
 
 use embedded_graphics::draw_target::DrawTarget;
@@ -162,14 +163,21 @@ fn draw_pages(station: &dyn Station) {
     }
 }
 
-/// An edit that gives one of two texts of 32 characters by turns.
-fn by_turns<'a>(mut edit: impl FnMut(Edit) -> Area + 'a) -> impl FnMut() + 'a {
-    let texts = [pages::letters(100, 32), pages::letters(101, 32)];
+/// What is done with one of two things by turns.
+fn by_turns<'a, T: 'a>(things: [T; 2], mut with: impl FnMut(&T) + 'a) -> impl FnMut() + 'a {
     let mut number = 0;
     move || {
         number ^= 1;
-        assert_eq!(edit(Edit::Text(&texts[number])).code, 0);
+        with(&things[number]);
     }
+}
+
+/// An edit that gives one of two texts of 32 characters by turns.
+fn new_text<'a>(mut edit: impl FnMut(Edit) -> Area + 'a) -> impl FnMut() + 'a {
+    let texts = [pages::letters(100, 32), pages::letters(101, 32)];
+    by_turns(texts, move |text| {
+        assert_eq!(edit(Edit::Text(text)).code, 0)
+    })
 }
 
 fn edit_page(station: &dyn Station, name: &str, make: fn() -> SheetModel) {
@@ -185,9 +193,9 @@ fn edit_page(station: &dyn Station, name: &str, make: fn() -> SheetModel) {
     let mut outside_page = frame.clone();
     station.draw(&sheet, &mut frame);
     let [edited, unseen, on_sheet, drawn, checked] = best([
-        &mut by_turns(|edit| station.edit(&mut sheet, &mut frame, LINE, edit)),
-        &mut by_turns(|edit| station.edit(&mut outside, &mut outside_page, LINE, edit)),
-        &mut by_turns(|edit| station.edit_on_sheet(&mut alone, LINE, edit)),
+        &mut new_text(|edit| station.edit(&mut sheet, &mut frame, LINE, edit)),
+        &mut new_text(|edit| station.edit(&mut outside, &mut outside_page, LINE, edit)),
+        &mut new_text(|edit| station.edit_on_sheet(&mut alone, LINE, edit)),
         &mut || {
             station.draw(black_box(&fresh), black_box(&mut page));
         },
@@ -292,5 +300,7 @@ fn main() {
     draw_pages(&station);
     edit_page(&station, "each apart from the others", || pages::lines(1));
     edit_page(&station, "each over two others", pages::overlapping);
+    reading::measure(&station, "each apart from the others", &pages::lines(1));
+    reading::measure(&station, "each over two others", &pages::overlapping());
     singles(&station);
 }

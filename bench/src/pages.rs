@@ -61,6 +61,13 @@ pub fn letters(seed: u64, count: usize) -> Vec<u8> {
     (0..count).map(|_| random.between(33, 126) as u8).collect()
 }
 
+/// A gauge reading: the numbers of twelve of 64 lines, and a new text of 32 characters for each.
+/// Another `number` has other texts.
+pub fn reading(number: u64) -> Vec<(u8, Vec<u8>)> {
+    let text = |line: u8| letters(100 + 12 * number + u64::from(line), 32);
+    (0..12).map(|line| (5 * line + 3, text(line))).collect()
+}
+
 fn sheet(width: u16, height: u16, font: FontModel) -> SheetModel {
     SheetModel {
         width,

@@ -29,24 +29,32 @@ fn quick() -> bool {
 
 /// Nanoseconds of each contender, the best of all rounds.
 pub fn best<const N: usize>(mut contenders: [Contender; N]) -> [f64; N] {
+    let mut times = [0.0; N];
+    times.copy_from_slice(&best_of(&mut contenders));
+    times
+}
+
+/// The same of any number of contenders.
+pub fn best_of(contenders: &mut [Contender]) -> Vec<f64> {
     if quick() {
-        return contenders.map(|contender| sample(contender, 1).as_nanos() as f64);
+        let once = |contender: &mut Contender| sample(contender, 1).as_nanos() as f64;
+        return contenders.iter_mut().map(once).collect();
     }
-    let mut times = [1_u32; N];
+    let mut times = vec![1_u32; contenders.len()];
     for (contender, times) in contenders.iter_mut().zip(&mut times) {
         while sample(contender, *times) < SAMPLE {
             *times *= 2;
         }
     }
-    let mut best = [f64::INFINITY; N];
+    let mut best = vec![f64::INFINITY; contenders.len()];
     let start = Instant::now();
     for round in 0..ROUNDS {
         if round > 1 && start.elapsed() > LONGEST {
             break;
         }
-        for at in 0..N {
-            let elapsed = sample(contenders[at], times[at]);
-            best[at] = best[at].min(elapsed.as_nanos() as f64 / f64::from(times[at]));
+        for ((contender, &times), best) in contenders.iter_mut().zip(&times).zip(&mut best) {
+            let elapsed = sample(contender, times);
+            *best = best.min(elapsed.as_nanos() as f64 / f64::from(times));
         }
     }
     best
