@@ -25,7 +25,7 @@ from station_sheet.show import decoration, grey  # noqa: E402
 
 PAPER, DEMANDS = "docs/SHEET.md", "docs/DEMANDS.md"
 TITLES = ["Numbers and bytes", "Geometry", "Characters", "Mapping", "Atlas", "One line", "Text", "Replaced characters", "Stop below the frame", "Joining strings",
-          "Ink", "Sheet", "Drawing and edits", "Page and host", "Fonts from BDF", "Replies and refusals", "Worked examples", "How far to trust this"]
+          "Ink", "Sheet", "Drawing and edits", "A list of edits", "Page and host", "Fonts from BDF", "Replies and refusals", "Worked examples", "How far to trust this"]
 # of the demands and of the rules, which stay as they were given: those of a section that was added later by themselves, and the sentence that one of
 # these replaced put back
 RULES_SHA256 = "df7653ae1b5fa7c823a8a3e8267ee0a349ff420aeddfc030918767c02936e3b3"
@@ -33,7 +33,8 @@ ADDED_SHA256 = {"Fonts from BDF": "3003de7df8c001d7575b8bc67b8094a0c026d0731d9fe
                 "Replaced characters": "31924ba9b6b14562230a5e14e69e8a9307ea06577f6231a310bd952e786666de",
                 "Stop below the frame": "d95a91b7401f9c79495d9311c621255ebd6852a81e5312e5a2307e84e587fc98",
                 "Joining strings": "b4ba52a891e698318f73a8bf46aa8b1bdb924604c122c3047ab0b824fbe1c3bd",
-                "Ink": "bea9cc321da51bb6368e294ca1a892b241069dd465485ad2f140ebdbdaffeecd"}
+                "Ink": "bea9cc321da51bb6368e294ca1a892b241069dd465485ad2f140ebdbdaffeecd",
+                "A list of edits": "aaa70207e9f7d091a1bc2096992e3b0d153966fb27e85b7393a81ee2d7ec2c54"}
 # what stood before the sentence that the rule of section Ink replaced, and that sentence
 REPLACED_RULE = ("new bytes 13 to 20 of an item.", "A line's ink box starts at its x and top edge, is its advance wide, and max(ch, each decoration's offset + height) high.")
 DEMANDS_SHA256 = "81032766de38756c2c69d7a4e908163f27ada3da2dabedc28dca7e1ffc7a224a"
@@ -533,6 +534,7 @@ def numbered_phrases():
         20: ([f"baseline above {font['baseline'][1]}", f"mapping above {font['bytes of the mapping'][1]} bytes"], [
             f"side of the cell is above {font['side of the cell'][1]}", f"offset is outside {' to '.join(font['offset of the cell or of a BBX'])}",
             f"baseline is above {font['baseline'][1]}", f"more than {font['bytes of the mapping'][1]} bytes"]),
+        22: (["a place not 8 bytes long"], ["kind is above 2", "other than 8 bytes"]),
     }
 
 
@@ -955,6 +957,22 @@ def edits():
     return bad
 
 
+@test("lists of edits of the whole sheet: replies, and sheet and frame as after the same edits one by one")
+def lists_of_edits():
+    bad, whole = [], bytes(dumped(blocks("Worked examples", WHOLE)[0][1]))
+    [rows] = [rows for head, rows in tables("Worked examples") if head == ["list", "reply", "why"]]
+    strange = bytes(37 * k % 251 for k in range(len(model.page(whole))))
+    for data, reply, _ in rows:
+        edits, wanted = hex_bytes(data), tuple(map(integer, reply.split(", ")))
+        for greys in (bytes(model.page(whole)), strange):
+            (b, frame), (single, singly) = ((bytearray(whole), bytearray(greys)) for _ in range(2))
+            bad += differences(model.edit_list(b, frame, edits), wanted, f"{data}: ")
+            for kind, item, given in (model.entries_of(edits) or [])[:wanted[1]]:
+                bad += differences(model.entry_made(single, singly, kind, item, given)[0], 0, f"{data}, item {item}: ")
+            bad += differences((b, frame), (single, singly), f"{data}: ")
+    return bad + differences(sorted({integer(reply.split(", ")[0]) for _, reply, _ in rows}), [0, 12, 16, 22])
+
+
 @test("the ranges of replies")
 def ranges():
     wide = {**SAMPLE, "small": (64, 64, 64, 255, 0, 0, 255, 255)}
@@ -1063,7 +1081,7 @@ def checksum(data):
     return total
 
 
-@test("the model on the stored list of edits, patched and fresh")
+@test("the model on the stored list of edits and batches, patched and fresh")
 def edit_list():
     data, wanted = stored("edit_lists")
     r = Reader(data)
@@ -1072,15 +1090,17 @@ def edit_list():
     fresh, frame = bytearray(patched), bytearray(31 * k % 256 for k in range(pixels))
     found = [f"drawing {model.draw(patched, frame)[0]}"]
     while r.at < len(data):
-        kind, item = ("text", "place", "style")[r.number(1)], r.number(4)
-        values = (r.signed(), r.signed()) if kind == "place" else (r.take(r.number(2)),)
+        kind, item = r.number(1), r.number(4)
+        values = (r.signed(), r.signed()) if kind == 1 else (r.take(r.number(2)),)
+        call = (model.set_text, model.set_place, model.set_style, model.edit_list)[kind]
+        values, name = (values, "batch") if kind == 3 else ((item, *values), "edit")
         before = bytes(frame)
-        reply = getattr(model, "set_" + kind)(patched, frame, item, *values)
-        again = getattr(model, "set_" + kind)(fresh, None, item, *values)
-        _, left, top, w, h = reply
+        reply, again = call(patched, frame, *values), call(fresh, None, *values)
+        left, top, w, h = reply[-4:]
         width = model.number(patched, 2, 2)
         kept = all(before[k] == frame[k] for k in range(pixels) if not (left <= k % width < left + w and top <= k // width < top + h))
-        found.append(f"edit {len(found)}: {' '.join(map(str, reply))} {'same' if reply == again else 'differs'} outside {'kept' if kept else 'painted'}")
+        same = "differs" if (reply, patched) != (again, fresh) else "refused" if reply[0] == 22 else "same"
+        found.append(f"{name} {len(found)}: {' '.join(map(str, reply))} {same} outside {'kept' if kept else 'painted'}")
     found += [f"drawing {model.draw(fresh, own := bytearray(pixels))[0]}", "sheets same" if patched == fresh else "sheets differ"]
     found += ["frames same" if frame == own else "frames differ", f"sheet {checksum(patched)}", f"frame {checksum(frame)}"]
     return [f"{f}, and not {w}" for f, w in zip(found, wanted.split("\n")[:-1], strict=True) if f != w]
@@ -1111,9 +1131,10 @@ def answer(kind, lent, a, data):
         case 9 | 12: return model.set_style(sheet, frame if kind == 9 else None, a[0], data)
         case 13: return model.write_page(sheet, frame, output)
         case 14: return model.walk(data, a[0])
+        case 15: return model.edit_list(sheet, frame, data)
 
 
-@test("the model on the stored list of the crate's answers: 320 cases, 2323 answers")
+@test("the model on the stored list of the crate's answers: 320 cases, 2329 answers")
 def oracle_list():
     data, bad, answers = stored("oracle_list")[0], [], 0
     r = Reader(data, 8)
@@ -1123,9 +1144,10 @@ def oracle_list():
         for call in range(r.number(2)):
             before = [bytes(b) for b in lent]
             kind, a, given = r.number(1), [r.number(4) for _ in range(3)], r.take(r.number(2))
-            reply = [n % 2**32 for n in answer(kind, lent, a, given)]
-            wanted = [r.number(4) for _ in range(5)]
-            if reply + [0] * (5 - len(reply)) != wanted:
+            code, *numbers = [n % 2**32 for n in answer(kind, lent, a, given)]
+            reply = [code, *(numbers if kind == 15 else [0, *numbers])]
+            wanted = [r.number(4) for _ in range(6)]
+            if reply + [0] * (6 - len(reply)) != wanted:
                 bad.append(f"case {case}, call {call}, kind {kind}: {reply}, and not {wanted}")
             for was, now, what in zip(before, lent, ("sheet", "frame", "output")):
                 at = r.number(2)
@@ -1133,7 +1155,7 @@ def oracle_list():
                 if now != was[:at] + changed + was[at + len(changed):]:
                     bad.append(f"case {case}, call {call}, kind {kind}: another {what}")
             answers += 1
-    return bad + differences((cases, answers, r.at), (320, 2323, len(data)))
+    return bad + differences((cases, answers, r.at), (320, 2329, len(data)))
 
 
 # ---- the program, where it is built
