@@ -1,4 +1,6 @@
 // An atlas of glyphs: where each stands in it, and the drawing of one.
+#![tactic(auto)]
+
 ghost use Rattle.std.specs.Prelude.{◌≡◌, false, ◌/◌, ◌≤◌, length};
 ghost use Rattle.geometry.specs.Rectangle.{is_empty, intersection};
 ghost use Rattle.geometry.specs.Layer.{map_indexed, within};
@@ -11,28 +13,28 @@ use geometry::{DrawTarget, OptionalGrey, Point, Rectangle, Size};
 use numbers::wide;
 
 // An atlas of glyphs: embedded-graphics' `ImageRaw` of one bit a pixel, and the size of a glyph's cell in it.
-#[derive(Drop)]
+#[derive(Clone, Copy)]
 pub struct Atlas {
     pub width: u32,
     pub cell_size: Size,
 }
 
 // How an atlas's bytes hold its glyphs: how many stand in a row of cells, and how many rows of pixels there are.
-#[derive(Drop)]
+#[derive(Clone, Copy)]
 pub struct Cells {
     pub glyphs_per_row: u32,
     pub image_height: usize,
 }
 
 // The colours of a glyph: that of the atlas's on pixels and that of its off pixels.
-#[derive(Drop)]
+#[derive(Clone, Copy)]
 pub struct GlyphColors {
     pub text: OptionalGrey,
     pub background: OptionalGrey,
 }
 
 // Where a glyph's cell stands in its atlas.
-#[derive(Drop)]
+#[derive(Clone, Copy)]
 enum Corner {
     // its first column and row
     At(usize, usize),

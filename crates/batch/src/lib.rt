@@ -1,4 +1,6 @@
 // A list of edits, made on an accepted sheet and on a frame of its size. Each edit repaints its own rectangle; the sheet is not checked again.
+#![tactic(auto)]
+
 ghost use Rattle.std.specs.Prelude.{◌≡◌, true};
 ghost use Rattle.entries.specs.Entries.{edit_of, is_entry, is_filled};
 ghost use Rattle.changes.specs.Change.{Checked, sheet_after, frame_after};
@@ -12,7 +14,7 @@ use entries::{entry_length, rest};
 use geometry::Rectangle;
 
 // The refusal that stopped the list, or 0, how many edits were made, and the smallest rectangle that holds theirs.
-#[derive(Drop)]
+#[derive(Clone, Copy)]
 pub struct Made {
     pub code: u32,
     pub made: usize,

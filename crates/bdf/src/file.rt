@@ -15,14 +15,14 @@ use bdf_lines::{forms, values};
 use characters::lines::{line_end, without_return};
 
 // What a line does, and where it ends: at its feed, or at the file's end.
-#[derive(Drop)]
+#[derive(Clone, Copy)]
 pub struct LineRead {
     pub answer: Answer,
     pub end: usize,
 }
 
 // Where the lines of a bitmap stand in the atlas: the row of the first, the pixels, and the bytes of a row.
-#[derive(Drop)]
+#[derive(Clone, Copy)]
 pub struct Strip {
     pub top: usize,
     pub left: usize,
@@ -31,7 +31,7 @@ pub struct Strip {
 }
 
 // A line that was read: its refusal or 0, the reader after it, and where it ends.
-#[derive(Drop)]
+#[derive(Clone, Copy)]
 pub struct Turned {
     pub code: u32,
     pub reader: Reader,
@@ -39,14 +39,14 @@ pub struct Turned {
 }
 
 // A reader between two lines, and the position of the next line.
-#[derive(Drop)]
+#[derive(Clone, Copy)]
 pub struct Position {
     pub reader: Reader,
     pub at: usize,
 }
 
 // What a whole file comes to: a refusal, or the reader after its last line.
-#[derive(Drop)]
+#[derive(Clone, Copy)]
 pub enum Measured {
     Refused(u32),
     Good(Reader),

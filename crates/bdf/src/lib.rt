@@ -1,4 +1,6 @@
 // A font file in the Glyph Bitmap Distribution Format 2.1, read line by line, and the font that it gives.
+#![tactic(auto)]
+
 ghost use Rattle.std.specs.Prelude.{◌≡◌, ◌+◌, length, ◌++◌};
 ghost use Rattle.bdf.specs.Font.{font_of, atlas_size, atlas_of, mapping_of, font_bytes, outcome, written};
 ghost use Rattle.bdf.specs.Within.{Within};
@@ -13,7 +15,7 @@ pub mod reader;
 pub mod usual;
 
 // What reading a font file comes to: a refusal, or the length of the font that was written.
-#[derive(Drop)]
+#[derive(Clone, Copy)]
 pub enum Outcome {
     Refused(u32),
     Written(u32),

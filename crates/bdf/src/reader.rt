@@ -11,7 +11,7 @@ use bdf_lines::values::{Count, Four, Number, Read, Row};
 use bdf_lines::{values, words};
 
 // A box: its sides, and the offsets of its lower left corner, counted from −1,000,000,000.
-#[derive(Drop)]
+#[derive(Clone, Copy)]
 pub struct BoundingBox {
     pub width: u32,
     pub height: u32,
@@ -20,7 +20,7 @@ pub struct BoundingBox {
 }
 
 // The line that is expected.
-#[derive(Drop)]
+#[derive(Clone, Copy)]
 pub enum Expected {
     StartFont,
     Font,
@@ -47,7 +47,7 @@ pub enum Expected {
 }
 
 // What is known before a line.
-#[derive(Drop)]
+#[derive(Clone, Copy)]
 pub struct Reader {
     pub expected: Expected,
     // property lines to come, or glyphs
@@ -65,7 +65,7 @@ pub struct Reader {
 }
 
 // What a line does: it is refused, or it leads to another state, and may say a glyph's encoding, its BBX, or a line of its bitmap.
-#[derive(Drop)]
+#[derive(Clone, Copy)]
 pub enum Answer {
     Refused(u32),
     Passed(Reader),

@@ -12,7 +12,7 @@ use bdf_lines::values::{Four, Read, ReadAt};
 use bdf_lines::words::Rest;
 
 // A line's answer, and the position after its feed.
-#[derive(Drop)]
+#[derive(Clone, Copy)]
 pub enum AnswerAt {
     At(Answer, usize),
     Other,

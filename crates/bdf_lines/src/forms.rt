@@ -12,14 +12,14 @@ use super::words::Rest;
 use characters::lines::line_end;
 
 // Four numbers, and the position after their feed.
-#[derive(Drop)]
+#[derive(Clone, Copy)]
 pub enum FourAt {
     Numbers(Number, Number, Number, Number, usize),
     Wrong,
 }
 
 // A bitmap line that ends in a feed: its bits, and where the feed stands.
-#[derive(Drop)]
+#[derive(Clone, Copy)]
 pub enum RowAt {
     Bits(u64, usize),
     Wrong,

@@ -10,42 +10,42 @@ use super::words::Rest;
 use numbers::{wide, wide64};
 
 // A number with its sign, which 0 has not; one above 18,000,000,000,000,000,000 counts as that.
-#[derive(Drop)]
+#[derive(Clone, Copy)]
 pub struct Number {
     pub negative: bool,
     pub size: u64,
 }
 
 // What a word that should be a number is.
-#[derive(Drop)]
+#[derive(Clone, Copy)]
 pub enum Read {
     Value(Number),
     Wrong,
 }
 
 // The same, of the first word from a position on, with the position after it.
-#[derive(Drop)]
+#[derive(Clone, Copy)]
 pub enum ReadAt {
     Value(Number, usize),
     Wrong,
 }
 
 // What a line that should have a count has.
-#[derive(Drop)]
+#[derive(Clone, Copy)]
 pub enum Count {
     Of(u64),
     Wrong,
 }
 
 // What a line that should have four numbers has.
-#[derive(Drop)]
+#[derive(Clone, Copy)]
 pub enum Four {
     Numbers(Number, Number, Number, Number),
     Wrong,
 }
 
 // What a bitmap line is: its bits as a number, the leftmost the highest.
-#[derive(Drop)]
+#[derive(Clone, Copy)]
 pub enum Row {
     Bits(u64),
     Wrong,

@@ -5,7 +5,7 @@ ghost use Rattle.bdf_lines.specs.Words.{is_blank, words, same, is_alone, is_name
 ghost use Rattle.bdf_lines.specs.Positions.{blanks, letters, is_none, after_word};
 
 // What stands after the keyword that a line begins with: the rest of the line from a position on, if it does begin with it.
-#[derive(Drop)]
+#[derive(Clone, Copy)]
 pub enum Rest {
     At(usize),
     Wrong,

@@ -1,11 +1,13 @@
 // What the exported calls answer: their codes and their replies, for a host in C.
+#![tactic(auto)]
+
 pub mod batches;
 pub mod codes;
 pub mod replies;
 
 // A code and a value: yes or no as 1 or 0, or a length.
 #[repr(C)]
-#[derive(Drop)]
+#[derive(Clone, Copy)]
 pub struct Number {
     pub code: u32,
     pub value: u32,
@@ -13,7 +15,7 @@ pub struct Number {
 
 // A code, the index of a character's glyph, and 1 for a character that is listed, else 0.
 #[repr(C)]
-#[derive(Drop)]
+#[derive(Clone, Copy)]
 pub struct Glyph {
     pub code: u32,
     pub index: u32,
@@ -22,7 +24,7 @@ pub struct Glyph {
 
 // A code and a position on the frame.
 #[repr(C)]
-#[derive(Drop)]
+#[derive(Clone, Copy)]
 pub struct Position {
     pub code: u32,
     pub x: i32,
@@ -31,7 +33,7 @@ pub struct Position {
 
 // A code, the position after what was drawn, and how many characters are not listed.
 #[repr(C)]
-#[derive(Drop)]
+#[derive(Clone, Copy)]
 pub struct Drawn {
     pub code: u32,
     pub x: i32,
@@ -41,7 +43,7 @@ pub struct Drawn {
 
 // A code and a rectangle on the frame.
 #[repr(C)]
-#[derive(Drop)]
+#[derive(Clone, Copy)]
 pub struct Box {
     pub code: u32,
     pub left: i32,
@@ -52,7 +54,7 @@ pub struct Box {
 
 // A code, the number of edits made, and a rectangle on the frame.
 #[repr(C)]
-#[derive(Drop)]
+#[derive(Clone, Copy)]
 pub struct Batch {
     pub code: u32,
     pub made: u32,
@@ -64,7 +66,7 @@ pub struct Batch {
 
 // A code, and of the walker: 1 at the end, else the character, and the offset of the next.
 #[repr(C)]
-#[derive(Drop)]
+#[derive(Clone, Copy)]
 pub struct Step {
     pub code: u32,
     pub ended: u32,

@@ -1,4 +1,6 @@
 // One edit on an accepted sheet: refused, or stored, with the rectangle that it leaves to be repainted. The sheet is not checked again.
+#![tactic(auto)]
+
 ghost use Rattle.std.specs.Prelude.{◌≡◌, true};
 ghost use Rattle.geometry.specs.Rectangle.{rectangle};
 ghost use Rattle.geometry.specs.Layer.{origin};
@@ -13,7 +15,7 @@ use entries::{data_of, i32_at, item_of, kind_of};
 use geometry::{ORIGIN, Rectangle};
 
 // The refusal of an edit, or 0, and its damage rectangle: empty, at the frame's corner, for a refused one.
-#[derive(Drop)]
+#[derive(Clone, Copy)]
 pub struct Change {
     pub code: u32,
     pub area: Rectangle,

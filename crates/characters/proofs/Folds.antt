@@ -6,9 +6,7 @@ use mathlib.Core.List.Memᴰ
 use mathlib.Core.List.{List, [], ◌∷◌, Memᴰ}
 use Prim.Native.Nat.{ℕ, zero, suc, ◌-◌, ◌<◌, ◌≤◌}
 use native.Mathlib.Omega.{arith}
-use denote.Enum.Declared.{tag_of}
 use lib.ListN.{length}
-use Rattle.characters.specs.contracts.Step.{the_type}
 use Rattle.characters.specs.declared.Cursor.{Cursor}
 use Rattle.characters.specs.declared.Step.{Step}
 use Rattle.characters.specs.declared.Step.TheVariants.{Character, IllFormed, End}
@@ -61,13 +59,12 @@ module _ {A : Type 0} (f : ℕ → A → A) (ill end : A) (s : List ℕ) where
 
 -- the `else` of a `let Step::Character(..) = .. else`
 abbrev pub Stopped : Step → Type 0
-Stopped x = (tag_of the_type x ≡ 1) ⊎ (tag_of the_type x ≡ 2)
+Stopped x = (ch : ℕ) (c : Cursor) → x ≡ Character ch c → ⊥
 
 pub stopped_cases : (x : Step) → Stopped x → (x ≡ IllFormed) ⊎ (x ≡ End)
-stopped_cases (Character ch c) (inl e) = absurd (omega arith)
-stopped_cases (Character ch c) (inr e) = absurd (omega arith)
-stopped_cases IllFormed e = inl refl
-stopped_cases End e = inr refl
+stopped_cases (Character ch c) h = absurd (h ch c refl)
+stopped_cases IllFormed h = inl refl
+stopped_cases End h = inr refl
 
 -- x is what stands at a position
 module _ (s : List ℕ) (at : ℕ) {x : Step} (e : x ≡ step_at s at) where

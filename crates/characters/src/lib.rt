@@ -1,4 +1,6 @@
 // RFC 3629: what stands at a cursor of a text, whether a text is well-formed, and its number of characters.
+#![tactic(auto)]
+
 ghost use Rattle.std.specs.Prelude.{◌≡◌, length};
 ghost use Rattle.characters.specs.Refusal.{need};
 ghost use Rattle.characters.specs.Utf8.{leading_ones, is_continuation, is_surrogate, scalar, two, three, four, step_at, chars, well_formed};
@@ -10,13 +12,13 @@ pub mod lines;
 pub mod walker;
 
 // A position in a text: the offset of its next byte.
-#[derive(Drop)]
+#[derive(Clone, Copy)]
 pub struct Cursor {
     pub at: usize,
 }
 
 // What stands at a position: a character and the position after it, a sequence that RFC 3629 does not allow, or the end.
-#[derive(Drop)]
+#[derive(Clone, Copy)]
 pub enum Step {
     Character(u32, Cursor),
     IllFormed,

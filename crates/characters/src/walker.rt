@@ -6,7 +6,7 @@ ghost use Rattle.characters.specs.Walker.{moved_to};
 use super::{Cursor, Step};
 
 // The line's bytes and the offset of the next character.
-#[derive(Drop)]
+#[derive(Clone, Copy)]
 pub struct Walker<'a> {
     pub line: &'a [u8],
     pub at: usize,

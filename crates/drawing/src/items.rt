@@ -7,7 +7,7 @@ use line::{MonoFont, MonoTextStyle};
 use text::TextStyle;
 
 // An item and its font; the bytes of the text, of the atlas and of the mapping are lent beside them.
-#[derive(Drop)]
+#[derive(Clone, Copy)]
 pub struct Item {
     pub font_number: u32,
     pub font: MonoFont,

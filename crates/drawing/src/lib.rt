@@ -1,4 +1,6 @@
 // The fresh drawing of a sheet, and repainting.
+#![tactic(auto)]
+
 ghost use Rattle.std.specs.Prelude.{◌≡◌, cond, ◌≤◌, length};
 ghost use Rattle.geometry.specs.Layer.{paint, paint_in, frame_of};
 ghost use Rattle.geometry.specs.Canvas.{Canvas};

@@ -1,6 +1,8 @@
 // A list of edits, made both ways through the exported calls: with a frame, singly or as batches, and singly on the sheet alone with one fresh
 // drawing at the end. Standard input holds the lengths of the sheet and of the frame (4 bytes each), the sheet, and the list: a kind (1 byte:
 // 0 text, 1 place, 2 style, 3 batch), an item (4; of a batch 0) and the data, which are a length (2) and the bytes, or x and y (4 each).
+#![tactic(auto)]
+
 ghost use Rattle.std.specs.Prelude.{◌<◌, ◌≤◌};
 
 use check::same;
@@ -233,7 +235,7 @@ fn make_counted(sheet: &mut [u8], list: &[u8], reply: Batch) -> Batch {
 // ---- both ways
 
 // The code and the rectangle of an edit or a batch that was made both ways, and whether both replied the same.
-#[derive(Drop)]
+#[derive(Clone, Copy)]
 struct Made {
     area: Box,
     is_same: bool,

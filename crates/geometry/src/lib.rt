@@ -1,6 +1,8 @@
 // Points, rectangles, and the frame as a draw target that is filled.
 // Coordinates are counted from a point 2^21 columns left of and 2^21 rows above the frame's corner, so that each is a natural
 // number.
+#![tactic(auto)]
+
 ghost use Rattle.std.specs.Prelude.{◌≡◌, ◌+◌, ◌-◌, min, max, length, replicate};
 ghost use Rattle.geometry.specs.Rectangle.{is_empty, envelope, join, intersection};
 ghost use Rattle.geometry.specs.Layer.{paint, filled};
@@ -14,21 +16,21 @@ pub mod numbers;
 pub const ORIGIN: u32 = 2097152;
 
 // A point: embedded-graphics' `Point`.
-#[derive(Drop)]
+#[derive(Clone, Copy)]
 pub struct Point {
     pub x: u32,
     pub y: u32,
 }
 
 // The extent of a rectangle: embedded-graphics' `Size`.
-#[derive(Drop)]
+#[derive(Clone, Copy)]
 pub struct Size {
     pub width: u32,
     pub height: u32,
 }
 
 // A rectangle by its corner and its extent, as docs/SHEET.md names them (Geometry).
-#[derive(Drop)]
+#[derive(Clone, Copy)]
 pub struct Rectangle {
     pub left: u32,
     pub top: u32,
@@ -38,7 +40,7 @@ pub struct Rectangle {
 
 // The frame as a draw target: its sides, and the area in which its pixels may change. Its greys are lent beside it.
 // embedded-graphics' `DrawTarget`, clipped.
-#[derive(Drop)]
+#[derive(Clone, Copy)]
 pub struct DrawTarget {
     pub width: usize,
     pub height: usize,
@@ -46,7 +48,7 @@ pub struct DrawTarget {
 }
 
 // A rectangle of the frame, its column and row counted from the frame's corner.
-#[derive(Drop)]
+#[derive(Clone, Copy)]
 pub struct FrameArea {
     pub left: usize,
     pub top: usize,
@@ -55,7 +57,7 @@ pub struct FrameArea {
 }
 
 // A colour that may be left unset: embedded-graphics' `Option` of a colour, for 8-bit grey.
-#[derive(Drop)]
+#[derive(Clone, Copy)]
 pub enum OptionalGrey {
     Unset,
     Set(u8),

@@ -3,6 +3,8 @@
 // place, x and y (4 each); each case is tried in all of them, over a strange frame. A case is a kind and an item (1 each) and a line (kind 0),
 // its length (2) and its bytes, or whitespace (1), its width and a step (4 each). A line is cut before each character and at its end, whitespace at
 // each multiple of the step.
+#![tactic(auto)]
+
 ghost use Rattle.std.specs.Prelude.{◌+◌, ◌<◌, ◌≤◌};
 
 use calls::replies::refused_drawn;
@@ -20,7 +22,7 @@ use std::num::{wrapping_add_u32, wrapping_add_u64};
 
 // How often the two ways gave the same, how often not, and how often a call was refused; of what was drawn at once, how many characters were
 // replaced, and the checksum of the frames.
-#[derive(Drop)]
+#[derive(Clone, Copy)]
 struct Tally {
     same: u64,
     different: u64,

@@ -1,9 +1,11 @@
 // The limits of a sheet (docs/SHEET.md, Sheet), on numbers: each test of a record's fields, with its refusal.
+#![tactic(auto)]
+
 ghost use Rattle.std.specs.Prelude.{◌≡◌};
 ghost use Rattle.limits.specs.Limits.{header_refusal, font_limits, good_modes, item_limits};
 
 // The header's fields that refusals 1 to 4 test, and the file's length.
-#[derive(Drop)]
+#[derive(Clone, Copy)]
 pub struct HeaderFields {
     pub file_length: usize,
     pub whole_length: usize,
@@ -16,7 +18,7 @@ pub struct HeaderFields {
 }
 
 // The fields of a font that refusal 6 tests.
-#[derive(Drop)]
+#[derive(Clone, Copy)]
 pub struct FontFields {
     pub cw: u8,
     pub ch: u8,
@@ -26,7 +28,7 @@ pub struct FontFields {
 }
 
 // The fields of an item that refusal 9 tests.
-#[derive(Drop)]
+#[derive(Clone, Copy)]
 pub struct ItemFields {
     pub slot_size: usize,
     pub text_length: usize,

@@ -1,4 +1,6 @@
 // One line of text: its colours, its decorations and its drawing.
+#![tactic(auto)]
+
 ghost use Rattle.std.specs.Prelude.{◌≡◌, true, cond, ◌+◌, ◌^◌, ◌<◌, ◌≤◌, length};
 ghost use Rattle.geometry.specs.Canvas.{Canvas, paint_on};
 ghost use Rattle.characters.specs.Utf8.{chars};
@@ -19,14 +21,14 @@ pub use measuring::{advance, baseline_offset, ink_box, ink_rows, measure_string,
 mod measuring;
 
 // Where a decoration stands below the top edge of a line, and how high it is.
-#[derive(Drop)]
+#[derive(Clone, Copy)]
 pub struct DecorationDimensions {
     pub offset: u32,
     pub height: u32,
 }
 
 // A monospaced font; the bytes of its atlas and of its mapping are lent beside it.
-#[derive(Drop)]
+#[derive(Clone, Copy)]
 pub struct MonoFont {
     pub atlas: Atlas,
     pub replacement_index: u32,
@@ -37,7 +39,7 @@ pub struct MonoFont {
 }
 
 // Columns of the target: a character that ends before `first`, or starts at `end` or after it, stands beside them.
-#[derive(Drop)]
+#[derive(Clone, Copy)]
 struct Columns {
     first: u32,
     end: u32,
@@ -45,7 +47,7 @@ struct Columns {
 
 // What the glyphs of a line are drawn with: its colours and its font, how the font's atlas holds the glyphs, where the search in the
 // font's mapping starts, and the columns in which characters are looked up.
-#[derive(Drop)]
+#[derive(Clone, Copy)]
 struct LineStyle {
     colors: MonoTextStyle,
     font: MonoFont,
@@ -55,14 +57,14 @@ struct LineStyle {
 }
 
 // What drawing a line gives: the next x, and a count of characters that the font's mapping does not list.
-#[derive(Drop)]
+#[derive(Clone, Copy)]
 pub struct DrawnLine {
     pub next: u32,
     pub replaced: u32,
 }
 
 // The colour of a decoration.
-#[derive(Drop)]
+#[derive(Clone, Copy)]
 pub enum DecorationColor {
     None,
     TextColor,
@@ -70,7 +72,7 @@ pub enum DecorationColor {
 }
 
 // The colours of a line of text.
-#[derive(Drop)]
+#[derive(Clone, Copy)]
 pub struct MonoTextStyle {
     pub text_color: OptionalGrey,
     pub background_color: OptionalGrey,
@@ -79,7 +81,7 @@ pub struct MonoTextStyle {
 }
 
 // Which row of a line stands at its y.
-#[derive(Drop)]
+#[derive(Clone, Copy)]
 pub enum Baseline {
     Top,
     Bottom,

@@ -1,4 +1,6 @@
 // A mapping: the entries that its bytes spell, the index of a character, whether it is listed, and the refusals 7 and 8.
+#![tactic(auto)]
+
 ghost use Rattle.std.specs.Prelude.{◌≡◌, ◌-◌, ◌≤◌, min, length};
 ghost use Rattle.characters.specs.Utf8.{chars_from};
 ghost use Rattle.mapping.specs.Entries.{entry_at, after_entry, stop_of, in_range, scalars_below, at_most, stop_refusal, ListFrom, WithinLimit};
@@ -12,7 +14,7 @@ pub mod search;
 
 // What stands at a position of a mapping: a range of characters and the position after it, a sequence that RFC 3629 does not
 // allow, or the end of the list.
-#[derive(Drop)]
+#[derive(Clone, Copy)]
 pub enum Entry {
     Range(u32, u32, Cursor),
     IllFormed,
@@ -20,14 +22,14 @@ pub enum Entry {
 }
 
 // Where a character stands in a mapping.
-#[derive(Drop)]
+#[derive(Clone, Copy)]
 pub enum Found {
     At(u32),
     Nothing,
 }
 
 // The glyph of a character: its index, and whether the mapping lists the character.
-#[derive(Drop)]
+#[derive(Clone, Copy)]
 pub struct Glyph {
     pub index: u32,
     pub listed: bool,
@@ -35,7 +37,7 @@ pub struct Glyph {
 
 // Where the search in a mapping starts for the characters of a text: the mapping's first entry, and what is passed over after it
 // for a character whose sequence begins with `lead` or a higher byte.
-#[derive(Drop)]
+#[derive(Clone, Copy)]
 pub struct Start {
     pub first: Entry,
     pub lead: u8,

@@ -8,7 +8,7 @@ use numbers::wide64;
 
 // The bytes by which a character is looked for: the first of its UTF-8 sequence, the second of four, the last but one and the last,
 // with how far on from the first they stand. One that a sequence is too short for is the first again.
-#[derive(Drop)]
+#[derive(Clone, Copy)]
 pub struct Needle {
     pub lead: u8,
     pub inner: u8,
@@ -20,14 +20,14 @@ pub struct Needle {
 }
 
 // Of 128 bytes: the greatest, where 00 comes after FF and each counts one less, and how many are lead bytes.
-#[derive(Drop)]
+#[derive(Clone, Copy)]
 pub struct Block {
     pub most: u8,
     pub leads: u8,
 }
 
 // The position after bytes that were passed over, and how many of them are lead bytes.
-#[derive(Drop)]
+#[derive(Clone, Copy)]
 pub struct Passed {
     pub at: usize,
     pub count: u64,

@@ -1,6 +1,8 @@
 // The marked lines of docs/SHEET.md, Worked examples, that are not starred, and RFC 3629's examples. Each is a line of standard input: a kind, bytes in hexadecimal, `=` and a
 // name; and a line of output: the name, the bytes and what was found. The kinds are t, a text; m, a mapping; i, the glyph of a character (three bytes, the
 // highest first) in the mapping that follows, with replacement 9; s, a sheet. The marked line on the program is the stored test of `station_page`.
+#![tactic(auto)]
+
 ghost use Rattle.std.specs.Prelude.{◌<◌, ◌≤◌, length};
 ghost use Rattle.mapping.specs.Entries.{WithinLimit};
 

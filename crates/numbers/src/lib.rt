@@ -1,4 +1,6 @@
 // Bytes as numbers.
+#![tactic(auto)]
+
 ghost use Rattle.std.specs.Prelude.{◌≡◌, ◌<◌, get_or};
 
 // The byte as a number of 32 bits.

@@ -1,6 +1,8 @@
 // Replays a list of calls with the answers of the Rust crate and of the formulas of docs/SHEET.md, read from standard input: each case on
 // slices of its own, each call on what the call before left. The reply's six numbers and every byte of sheet, frame and output are
 // compared after each call. `oracle/src/list.rs` has the list's form and makes it.
+#![tactic(auto)]
+
 ghost use Rattle.std.specs.Prelude.{◌≡◌, ◌-◌, ◌<◌, ◌≤◌, true, length, take, drop};
 ghost use Rattle.oracle_list.specs.Changes.{length_at, changed};
 
@@ -249,7 +251,7 @@ fn make_call(sheet: &mut [u8], frame: &mut [u8], output: &mut [u8], call: &[u8])
 // ---- the comparison
 
 // What of a call's outcome is as the list says.
-#[derive(Drop)]
+#[derive(Clone, Copy)]
 struct Same {
     reply: bool,
     sheet: bool,

@@ -1,4 +1,6 @@
 // What the programs share: words, numbers, refusals, faults and files written, the number of a sheet's pixels, strange frames and checksums.
+#![tactic(auto)]
+
 ghost use Rattle.std.specs.Prelude.{◌≡◌, ◌≤◌, nat_abs};
 ghost use Rattle.characters.specs.Refusal.{unless_refused};
 ghost use Rattle.sheet.specs.Check.{check};

@@ -1,5 +1,7 @@
 // Reads a BDF file from standard input; writes its font, or `refused`, its number and a feed. For a file of more than 4,194,304 bytes it writes
 // `too long` and a feed. Where no font was written, standard error says so.
+#![tactic(auto)]
+
 use libc::STDIN_FILENO;
 use programs::{write_fault, write_part, write_refused};
 use station::station_read_bdf;

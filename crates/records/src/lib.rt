@@ -1,4 +1,6 @@
 // Fonts and items of an accepted sheet: numbers by value, pieces as parts of the file.
+#![tactic(auto)]
+
 ghost use Rattle.std.specs.Prelude.{◌≡◌, ◌≤◌, length};
 ghost use Rattle.line.specs.Limits.{FontLimits};
 ghost use Rattle.sheet.specs.Fields.{coordinate, font_at, item_at, font_number, atlas_bytes, mapping_bytes, text_bytes};

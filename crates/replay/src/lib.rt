@@ -1,5 +1,7 @@
 // What the programs that replay a stored list share: numbers and parts read from it, replies compared, bytes stored, and the edits.
 // A list that ends early has zeros for the missing bytes, and shorter parts.
+#![tactic(auto)]
+
 ghost use Rattle.std.specs.Prelude.{◌≡◌, true, ◌+◌, ◌*◌, ◌^◌, ◌<◌, ◌≤◌, min, leb, length, get_or, take, drop};
 ghost use Rattle.calls.specs.Calls.{edit_reply, edit_sheet, edit_frame, on_sheet_reply, on_sheet_sheet};
 ghost use Rattle.replay.specs.Edits.{edit_of};

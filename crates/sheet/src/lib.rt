@@ -1,4 +1,6 @@
 // The sheet's file: its fields, and its check.
+#![tactic(auto)]
+
 ghost use Rattle.std.specs.Prelude.{◌≡◌, ◌+◌, ◌≤◌, length};
 ghost use Rattle.sheet.specs.Check.{header_fields, check_header, font_fields, check_font, check_fonts, item_fields, zeros, check_item, check_items, check};
 ghost use Rattle.sheet.specs.Accepted.{FontIn, ItemIn, LaidOut};
@@ -14,7 +16,7 @@ pub mod fields;
 pub mod pieces;
 
 // Where the pieces of some records end, or that one of them is out of place.
-#[derive(Drop)]
+#[derive(Clone, Copy)]
 pub enum Reach {
     To(usize),
     Misplaced,

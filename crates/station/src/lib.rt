@@ -1,5 +1,7 @@
 // The exported calls, for a host in C. Each that takes a sheet runs the check first, then its own tests, rising; a refused call has its
 // number for a code and zeros, and leaves sheet, frame and output as they were. A list of edits that stops at a refused one keeps those before it.
+#![tactic(auto)]
+
 ghost use Rattle.std.specs.Prelude.{◌≡◌, length};
 ghost use Rattle.sheet.specs.Check.{check};
 ghost use Rattle.sheet.specs.Edits.{new_text, new_place, new_style};

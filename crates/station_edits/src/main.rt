@@ -2,6 +2,8 @@
 // 65,536 bytes. Writes a line with the reply's six numbers: code, made, left, top, width and height; behind it, if the code is 0, the edited sheet.
 // Where the input ends before the sheet does, it writes `too short` and a feed, and for a longer list `too long` and a feed. That there is no edited
 // sheet, or that not all of it was written, standard error says as well.
+#![tactic(auto)]
+
 ghost use Rattle.std.specs.Prelude.{◌≤◌};
 
 use libc::{STDERR_FILENO, STDIN_FILENO, STDOUT_FILENO};

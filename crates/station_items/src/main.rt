@@ -1,6 +1,8 @@
 // Reads a sheet from standard input; writes a line for each item: its number, the left, top, width and height of its measured box, the
 // x and y of its next position, and how many of its characters are replaced. For a sheet that is refused it writes `refused`, its number and a
 // feed. Where not all lines were written, standard error says so.
+#![tactic(auto)]
+
 use libc::{STDERR_FILENO, STDIN_FILENO, STDOUT_FILENO};
 use programs::{pixel_count, write_number, write_refused, write_signed};
 use sheet::fields::item_count;

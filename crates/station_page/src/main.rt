@@ -1,5 +1,7 @@
 // Reads a sheet from standard input; writes its page, or `refused`, its number and a feed. Where no page was written, standard error
 // says so.
+#![tactic(auto)]
+
 use libc::STDIN_FILENO;
 use programs::{pixel_count, write_part, write_refused};
 use station::{station_draw, station_write_page};

@@ -1,6 +1,8 @@
 // Stored BDF files, read from standard input, through the call. Of each a line of output: its number and `refused` with the refusal, or `font` with
 // the font's length and hash, and then a second line: `short` with the code for an output one byte shorter than the font. Where a call that is
 // refused changed its output, its line ends with `changed`.
+#![tactic(auto)]
+
 use libc::{STDIN_FILENO, STDOUT_FILENO};
 use programs::{write_either, write_line, write_number, write_word};
 use replay::{part, rest, store, u32_of};

@@ -1,4 +1,6 @@
 // Stored sheets, read from standard input, through the check: a line of output for each.
+#![tactic(auto)]
+
 use libc::{STDIN_FILENO, STDOUT_FILENO};
 use sheet::fields::u32_at;
 

@@ -18,7 +18,7 @@ use geometry::numbers::minus;
 use line::{MonoFont, MonoTextStyle};
 
 // The text that a line is a part of, while the layouts before and after an edit are found.
-#[derive(Drop)]
+#[derive(Clone, Copy)]
 pub enum Source {
     Stored,
     New,

@@ -1,4 +1,6 @@
 // A text: its lines, where each stands, and its drawing.
+#![tactic(auto)]
+
 ghost use Rattle.std.specs.Prelude.{◌≡◌, cond, length};
 ghost use Rattle.geometry.specs.Canvas.{Canvas, paint_on};
 ghost use Rattle.characters.specs.Utf8.{chars};
@@ -18,7 +20,7 @@ use line::{Baseline, DrawnLine, MonoFont, MonoTextStyle};
 mod boxes;
 
 // Where the lines of a text stand beside its x.
-#[derive(Drop)]
+#[derive(Clone, Copy)]
 pub enum Alignment {
     Left,
     Center,
@@ -26,14 +28,14 @@ pub enum Alignment {
 }
 
 // How much lower each line stands than the one before: in pixels, or in percent of the characters' height.
-#[derive(Drop)]
+#[derive(Clone, Copy)]
 pub enum LineHeight {
     Pixels(u32),
     Percent(u32),
 }
 
 // How the lines of a text are set.
-#[derive(Drop)]
+#[derive(Clone, Copy)]
 pub struct TextStyle {
     pub alignment: Alignment,
     pub baseline: Baseline,
@@ -41,7 +43,7 @@ pub struct TextStyle {
 }
 
 // Where a text stands and how it is set: embedded-graphics' `Text` without its bytes, which are lent beside it.
-#[derive(Drop)]
+#[derive(Clone, Copy)]
 pub struct TextLayout {
     pub position: Point,
     pub character_style: MonoTextStyle,
@@ -50,7 +52,7 @@ pub struct TextLayout {
 
 // What drawing a text replies: the next position of its last line, and how many characters of its lines the font's mapping does not
 // list. Where no reply is asked for, it is the text's own position, and 0.
-#[derive(Drop)]
+#[derive(Clone, Copy)]
 pub struct DrawnText {
     pub next: Point,
     pub replaced: u32,

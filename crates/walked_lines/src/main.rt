@@ -1,5 +1,7 @@
 // Walks each line of standard input with the walker: a line of output for each character (its offset, then its number in hexadecimal),
 // then `end` or `10` with the offset where the walk stopped, and how many characters there were.
+#![tactic(auto)]
+
 ghost use Rattle.std.specs.Prelude.{◌≡◌, length};
 ghost use Rattle.characters.specs.Utf8.{chars};
 
