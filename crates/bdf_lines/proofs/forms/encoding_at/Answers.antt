@@ -1,0 +1,9 @@
+-- `encoding_at` meets its contract: the keyword, and a number up to a feed. Assumes nothing.
+use Rattle.bdf_lines.proofs.UsualForms.{encoding_none, encoding_found}
+use Rattle.bdf_lines.proofs.forms.encoding_at.Goals as goal
+
+pub returns-in_default : goal.returns-in_default
+returns-in_default c = search encoding_none
+
+pub returns : goal.returns
+returns c = search encoding_found

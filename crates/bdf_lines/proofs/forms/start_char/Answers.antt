@@ -1,0 +1,18 @@
+-- `start_char` meets its contract: the keyword, and a name that begins after one blank, up to a feed. Assumes nothing.
+use Rattle.bdf_lines.proofs.UsualForms.{line_none, named_found}
+use Rattle.bdf_lines.proofs.forms.start_char.Goals as goal
+
+pub returns-in_default : goal.returns-in_default
+returns-in_default c = search line_none
+
+pub returns-then-file-first : goal.returns-then-file-first
+returns-then-file-first c = search line_none
+
+pub returns-then-file-first-le32 : goal.returns-then-file-first-le32
+returns-then-file-first-le32 c = search line_none
+
+pub returns-then-file-end : goal.returns-then-file-end
+returns-then-file-end c = search line_none
+
+pub returns : goal.returns
+returns c = search named_found

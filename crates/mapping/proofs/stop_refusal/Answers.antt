@@ -1,0 +1,12 @@
+-- Each return is a case of the definition. Assumes nothing.
+use Rattle.mapping.proofs.Entries.{refusal_ill_formed, refusal_none, refusal_limit}
+use Rattle.mapping.proofs.stop_refusal.Goals as goal
+
+pub returns-in_default : goal.returns-in_default
+returns-in_default c = search refusal_ill_formed
+
+pub returns-then-count-le65536 : goal.returns-then-count-le65536
+returns-then-count-le65536 c = search refusal_none
+
+pub returns : goal.returns
+returns c = search refusal_limit
