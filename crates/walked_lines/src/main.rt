@@ -5,37 +5,40 @@
 ghost use Rattle.std.specs.Prelude.{◌≡◌, length};
 ghost use Rattle.characters.specs.Utf8.{chars};
 
-use bytes::scan::find;
 use characters::{Step, walker};
-use libc::{STDIN_FILENO, STDOUT_FILENO};
+use reading::read_full;
+
+// Writes a word; a write that fails is let pass.
+fn write(out: &impl Print, text: &[u8]) {
+    let _ = out.write_all(text);
+}
 
 // Writes what stands at an offset, and ends the line.
-fn write_step(at: usize, step: Step) {
-    io::print_decimal(STDOUT_FILENO, at as u64);
+fn write_step(out: &impl Print, at: usize, step: Step) {
+    let _ = print!(out; "{at}");
     match step {
         Step::Character(character, _) => {
-            io::write_all(STDOUT_FILENO, b" ");
-            io::print_hex(STDOUT_FILENO, character as u64, 4);
+            let _ = print!(out; " {character:04x}");
         }
         Step::IllFormed => {
-            io::write_all(STDOUT_FILENO, b" 10");
+            write(out, b" 10");
         }
         Step::End => {
-            io::write_all(STDOUT_FILENO, b" end");
+            write(out, b" end");
         }
     }
-    io::write_all(STDOUT_FILENO, b"\n");
+    write(out, b"\n");
 }
 
 // Walks a line to its end, or to what is ill-formed, writes each step, and counts the characters.
-fn walk_line(line: &[u8]) -> usize
+fn walk_line(out: &impl Print, line: &[u8]) -> usize
     ensures { result ≡ length (chars line.now) }
 {
     let mut w = walker::new(line, 0);
     let mut n = 0;
     loop {
         let step = walker::next(w);
-        write_step(w.at, step);
+        write_step(out, w.at, step);
         let Step::Character(_, after) = step else {
             return n;
         };
@@ -45,29 +48,20 @@ fn walk_line(line: &[u8]) -> usize
 }
 
 // Writes how many characters a line has.
-fn write_count(n: usize) {
-    io::write_all(STDOUT_FILENO, b"characters ");
-    io::print_decimal(STDOUT_FILENO, n as u64);
-    io::write_all(STDOUT_FILENO, b"\n");
+fn write_count(out: &impl Print, n: usize) {
+    let _ = println!(out; "characters {n}");
 }
 
 // Walks the lines between line feeds: n feeds give n + 1 lines.
-fn walk_lines(text: &[u8]) {
-    let size = text.len();
-    let mut from = 0;
-    loop {
-        let to = find(text, from, size, 0x0A);
-        io::write_all(STDOUT_FILENO, b"line\n");
-        write_count(walk_line(&text[from..to]));
-        if to == size {
-            return;
-        }
-        from = to + 1;
+fn walk_lines(out: &impl Print, text: &[u8]) {
+    for line in text.split(|byte| *byte == 0x0A) {
+        write(out, b"line\n");
+        write_count(out, walk_line(out, line));
     }
 }
 
-fn main() {
+fn main(rt: HostRuntime) {
     let mut text = [0u8; 4096];
-    let n = io::read_full(STDIN_FILENO, &mut text);
-    walk_lines(&text[..n]);
+    let n = read_full(&mut rt.stdin(), &mut text);
+    walk_lines(&rt, &text[..n]);
 }
