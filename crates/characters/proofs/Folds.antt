@@ -61,6 +61,12 @@ module _ {A : Type 0} (f : ℕ → A → A) (ill end : A) (s : List ℕ) where
 abbrev pub Stopped : Step → Type 0
 Stopped x = (ch : ℕ) (c : Cursor) → x ≡ Character ch c → ⊥
 
+pub ill_formed_stopped : Stopped IllFormed
+ill_formed_stopped ch c q = cc
+
+pub end_stopped : Stopped End
+end_stopped ch c q = cc
+
 pub stopped_cases : (x : Step) → Stopped x → (x ≡ IllFormed) ⊎ (x ≡ End)
 stopped_cases (Character ch c) h = absurd (h ch c refl)
 stopped_cases IllFormed h = inl refl

@@ -14,7 +14,7 @@ use Rattle.characters.specs.declared.Step.{Step}
 use Rattle.characters.specs.declared.Step.TheVariants.{Character, IllFormed, End}
 use Rattle.characters.specs.Utf8.{is_surrogate, step_at, chars_from, well_formed_from}
 use Rattle.characters.proofs.Steps.{step_advances, step_ill_formed, step_end}
-use Rattle.characters.proofs.Folds.{Stopped, stopped_cases, chars-character, chars_stopped, well_formed-character, well_formed_stopped, well_formed_past}
+use Rattle.characters.proofs.Folds.{Stopped, ill_formed_stopped, end_stopped, stopped_cases, chars-character, chars_stopped, well_formed-character, well_formed_stopped, well_formed_past}
 use Rattle.mapping.specs.contracts.Entry.{the_type as entry-type}
 use Rattle.mapping.specs.declared.Entry.{Entry}
 use Rattle.mapping.specs.declared.Entry.TheVariants as entry
@@ -24,11 +24,10 @@ use Rattle.mapping.specs.Mapping.{scalars_from, from_to, spelled}
 -- ---- `stop`, `stop_refusal` and `entry_at`: a law for each way out, where x, y and z are the steps one after another
 
 -- the `else` of `stop`: anything but an ill-formed sequence
-pub stop_end : (x : Step) → (tag_of the_type x ≡ 0) ⊎ (tag_of the_type x ≡ 2) → entry.End ≡ stop_of x
+pub stop_end : (x : Step) → (x ≡ IllFormed → ⊥) → entry.End ≡ stop_of x
 unfolding stop_of
 stop_end (Character ch c) t = refl
-stop_end IllFormed (inl e) = absurd (omega arith)
-stop_end IllFormed (inr e) = absurd (omega arith)
+stop_end IllFormed t = absurd (t refl)
 stop_end End t = refl
 
 pub stop_ill_formed : (x : Step) → x ≡ IllFormed → entry.IllFormed ≡ stop_of x
@@ -36,12 +35,11 @@ unfolding stop_of
 stop_ill_formed x q = rw q
 
 -- the `else` of `stop_refusal`: anything but the end
-pub refusal_ill_formed : (x : Entry) (count : ℕ) → (tag_of entry-type x ≡ 0) ⊎ (tag_of entry-type x ≡ 1) → 7 ≡ stop_refusal x count
+pub refusal_ill_formed : (x : Entry) (count : ℕ) → (x ≡ entry.End → ⊥) → 7 ≡ stop_refusal x count
 unfolding stop_refusal
 refusal_ill_formed (entry.Range start end c) count t = refl
 refusal_ill_formed entry.IllFormed count t = refl
-refusal_ill_formed entry.End count (inl e) = absurd (omega arith)
-refusal_ill_formed entry.End count (inr e) = absurd (omega arith)
+refusal_ill_formed entry.End count t = absurd (t refl)
 
 module _ (x : Entry) (count : ℕ) (q : x ≡ entry.End) where
   pub refusal_none : count ≤ 65_536 → 0 ≡ stop_refusal x count
@@ -123,9 +121,12 @@ spelled_lacks : (start : ℕ) → spelled (0 ∷ start ∷ []) ≡ []
 unfolding spelled
 spelled_lacks start = refl
 
-pub stopped_entry : (x : Entry) → (tag_of entry-type x ≡ 1) ⊎ (tag_of entry-type x ≡ 2) → (x ≡ entry.IllFormed) ⊎ (x ≡ entry.End)
-stopped_entry (entry.Range start end c) (inl e) = absurd (omega arith)
-stopped_entry (entry.Range start end c) (inr e) = absurd (omega arith)
+-- the `else` of a `let Entry::Range(..) = .. else`
+abbrev pub StoppedEntry : Entry → Type 0
+StoppedEntry x = (start end : ℕ) (c : Cursor) → x ≡ entry.Range start end c → ⊥
+
+pub stopped_entry : (x : Entry) → StoppedEntry x → (x ≡ entry.IllFormed) ⊎ (x ≡ entry.End)
+stopped_entry (entry.Range start end c) t = absurd (t start end c refl)
 stopped_entry entry.IllFormed t = inl refl
 stopped_entry entry.End t = inr refl
 
@@ -135,11 +136,11 @@ module _ (s : List ℕ) where
 
   ill-formed-halts : (at : ℕ) → IllFormed ≡ step_at s at → Halts at false
   unfolding Halts
-  ill-formed-halts at e = (well_formed_stopped s at e (inl refl) (step_ill_formed s at e refl), chars_stopped s at e (inl refl))
+  ill-formed-halts at e = (well_formed_stopped s at e ill_formed_stopped (step_ill_formed s at e refl), chars_stopped s at e ill_formed_stopped)
 
   end-halts : (at : ℕ) → End ≡ step_at s at → Halts at true
   unfolding Halts
-  end-halts at e = (well_formed_past s at (step_end s at e refl), chars_stopped s at e (inr refl))
+  end-halts at e = (well_formed_past s at (step_end s at e refl), chars_stopped s at e end_stopped)
 
   first-halts : (at : ℕ) (w : Bool) → Halts at w → Stops s at w
   unfolding Halts spelled
@@ -209,5 +210,5 @@ module _ (s : List ℕ) where
     entry_end q = rw (sym e ∙ q) at (first_says at (step_at s at) refl)
 
     -- the `else` of a `let Entry::Range(..) = .. else`
-    pub entry_stopped : (tag_of entry-type x ≡ 1) ⊎ (tag_of entry-type x ≡ 2) → spelled (chars_from s at) ≡ []
+    pub entry_stopped : StoppedEntry x → spelled (chars_from s at) ≡ []
     entry_stopped t = ⊎_elim (λ q. (entry_ill_formed q).spells) (λ q. (entry_end q).spells) (stopped_entry x t)

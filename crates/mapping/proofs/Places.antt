@@ -26,7 +26,7 @@ use Rattle.mapping.specs.Search.{SkipsBelow, StartOf}
 use Rattle.mapping.specs.Entries.{entry_at, after_entry, in_range, at_most, glyph_at, stop_refusal, ListFrom, WithinLimit}
 use Rattle.mapping.specs.Mapping.{from_to, spelled, list_of, place_from, is_found, refusal}
 use Rattle.mapping.proofs.Ranges.{length_range_le, length_range_through, place_in, place_past}
-use Rattle.mapping.proofs.Entries.{entry_range, entry_stopped, entry_ill_formed, entry_end, stopped_entry}
+use Rattle.mapping.proofs.Entries.{StoppedEntry, entry_range, entry_stopped, entry_ill_formed, entry_end, stopped_entry}
 
 -- ---- positions up to a limit
 
@@ -135,7 +135,7 @@ limit_same j k e = elim (dec_lt 65_536 j) [
   | no l ↦ rw (le-leb j 65_536 (omega arith), le-leb k 65_536 (omega arith))
 ]
 
-module _ (s : List ℕ) (at : ℕ) {x : Entry} (e : x ≡ entry_at s at) (t : (tag_of entry-type x ≡ 1) ⊎ (tag_of entry-type x ≡ 2)) where
+module _ (s : List ℕ) (at : ℕ) {x : Entry} (e : x ≡ entry_at s at) (t : StoppedEntry x) where
   pub find_stopped : (most k ch : ℕ) (f : Found) → at_most most (place_from k ch (spelled (chars_from s at))) ≡ f → Nothing ≡ f
   unfolding place_from
   find_stopped most k ch f h = rw (entry_stopped s at e t) at h
@@ -161,7 +161,7 @@ pub after_range : {x : Entry} {start end : ℕ} {c : Cursor} → x ≡ entry.Ran
 unfolding after_entry
 after_range q = rw q
 
-pub after_stopped : (x : Entry) → (tag_of entry-type x ≡ 1) ⊎ (tag_of entry-type x ≡ 2) → 0 ≡ after_entry x
+pub after_stopped : (x : Entry) → StoppedEntry x → 0 ≡ after_entry x
 unfolding after_entry
 after_stopped x t = ⊎_elim (λ q. rw q) (λ q. rw q) (stopped_entry x t)
 

@@ -15,7 +15,7 @@ use Rattle.characters.specs.declared.Step.{Step}
 use Rattle.characters.specs.declared.Step.TheVariants.{Character, IllFormed, End}
 use Rattle.characters.specs.Utf8.{step_at, chars_from, well_formed_from}
 use Rattle.characters.proofs.Steps.{step_advances, step_end}
-use Rattle.characters.proofs.Folds.{chars-character, well_formed-character, well_formed_stopped}
+use Rattle.characters.proofs.Folds.{ill_formed_stopped, chars-character, well_formed-character, well_formed_stopped}
 use Rattle.mapping.specs.contracts.Entry.{the_type}
 use Rattle.mapping.specs.declared.search.Needle.{Needle}
 use Rattle.mapping.specs.declared.search.Passed.{Passed}
@@ -27,7 +27,7 @@ use Rattle.mapping.specs.Entries.{entry_at, at_most, ListFrom}
 use Rattle.mapping.specs.Mapping.{spelled, place_from}
 use Rattle.mapping.specs.Search.{is_lead, leads, needle_of, may_begin, may_begin_at, Passes, Skips, Resumes}
 use Rattle.mapping.proofs.Blocks.{leads-append, leads_one, passes_none, skips_join}
-use Rattle.mapping.proofs.Entries.{entry_range}
+use Rattle.mapping.proofs.Entries.{StoppedEntry, entry_range}
 use Rattle.mapping.proofs.Places.{place_capped, find_stopped}
 use Rattle.mapping.proofs.Sequences.{Spelt, step_spelt}
 
@@ -38,7 +38,7 @@ or_true false = refl
 -- a character begins with a lead byte
 well_lead : (s : List ℕ) (at : ℕ) (x : Step) → x ≡ step_at s at → well_formed_from s at ≡ true → at < length s → is_lead (get_or s at 0) ≡ true
 well_lead s at (Character ch c) e v h = (step_spelt s at e).starts
-well_lead s at IllFormed e v h = absurd (true≢false (sym v ∙ well_formed_stopped s at e (inl refl) h))
+well_lead s at IllFormed e v h = absurd (true≢false (sym v ∙ well_formed_stopped s at e ill_formed_stopped h))
 well_lead s at End e v h = absurd (let q = step_end s at e refl in omega arith)
 
 pub skips_none : (s : List ℕ) (p : Needle) (from : ℕ) → ListFrom s from → Skips s p from (record { at = from; count = 0 })
@@ -121,7 +121,7 @@ module _ (s : List ℕ) (ch : ℕ) where
       | no l ↦ rest-none from (omega arith) v
     ]
     rest-by (suc n) from IllFormed e m h v clear = elim (dec_lt from at) [
-      | yes l ↦ absurd (true≢false (sym v ∙ well_formed_stopped s from e (inl refl) (omega arith)))
+      | yes l ↦ absurd (true≢false (sym v ∙ well_formed_stopped s from e ill_formed_stopped (omega arith)))
       | no l ↦ rest-none from (omega arith) v
     ]
     rest-by (suc n) from End e m h v clear = elim (dec_lt from at) [
@@ -144,7 +144,7 @@ module _ (s : List ℕ) (ch from : ℕ) (r : Passed) (g : Skips s (needle_of ch)
       let n = g.passes.counted in
       place_capped most ch (spelled (chars_from s r.at)) j (k + leads s from (r.at - from)) (omega arith) ∙ (rw (rest.placed k) at h)
 
-  pub skip_stopped : {x : Entry} → x ≡ entry_at s r.at → (tag_of the_type x ≡ 1) ⊎ (tag_of the_type x ≡ 2)
+  pub skip_stopped : {x : Entry} → x ≡ entry_at s r.at → StoppedEntry x
       → (most k : ℕ) (f : Found) → at_most most (place_from k ch (spelled (chars_from s from))) ≡ f → Nothing ≡ f
   skip_stopped e t most k f h = find_stopped s r.at e t most _ ch f (rw (rest.placed k) at h)
 

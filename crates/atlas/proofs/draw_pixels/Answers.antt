@@ -1,5 +1,4 @@
 -- `draw_pixels` meets its contract: at pixel i the first i pixels are drawn and the others as they were. Assumes nothing.
-use Prim.Native.Nat.{◌-◌}
 use Rattle.geometry.proofs.Rows.{row_start, row_step, row_end}
 use Rattle.atlas.specs.Row.{bit_row}
 use Rattle.atlas.proofs.draw_pixels.Goals as goal

@@ -1,5 +1,4 @@
 -- `draw_row` meets its contract: at pixel i the first i pixels are drawn and the others as they were. Assumes nothing.
-use Prim.Native.Nat.{◌-◌}
 use Rattle.geometry.proofs.Rows.{row_start, row_end}
 use Rattle.atlas.proofs.Bits.{eight_step, rest_step}
 use Rattle.atlas.proofs.draw_row.Goals as goal

@@ -1,6 +1,5 @@
 -- `draw_sub_image` meets its contract: at row k the first k rows of what the target shows are drawn, and past the last one stands the cell's foot
 -- or the target's. Assumes nothing.
-use Prim.Native.Nat.{◌-◌}
 use Rattle.geometry.proofs.Clips.{shown_starts, shown_past_left, shown_past_top}
 use Rattle.geometry.proofs.Frames.{row_fits, row_start_fits, row_end_fits, row_end_in}
 use Rattle.atlas.proofs.Images.{sub_image_row, image-start, image-step}

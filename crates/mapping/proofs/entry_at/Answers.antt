@@ -3,7 +3,7 @@ use Rattle.mapping.proofs.Entries.{first_stopped, single, second_stopped, third_
 use Rattle.mapping.proofs.entry_at.Goals as goal
 
 pub returns-in_default : goal.returns-in_default
-returns-in_default c = search first_stopped
+returns-in_default c = search (first_stopped, c.in_default.not-Character)
 
 pub returns-then-ch-ne0 : goal.returns-then-ch-ne0
 returns-then-ch-ne0 c = search single

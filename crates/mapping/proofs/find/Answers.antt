@@ -6,7 +6,7 @@ use borrow.Author.Rules.{rules}
 use Rattle.mapping.proofs.find.Goals as goal
 
 pub returns-in_default : goal.returns-in_default
-returns-in_default c = search skip_stopped
+returns-in_default c = search (skip_stopped, c.in_default.not-Range)
 
 pub overflow_add-k-then-in_range : goal.overflow_add-k-then-in_range
 overflow_add-k-then-in_range c = search (found_fits, capped)

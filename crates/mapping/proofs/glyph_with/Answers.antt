@@ -5,7 +5,7 @@ use Rattle.mapping.proofs.Skipped.{resumed}
 use Rattle.mapping.proofs.glyph_with.Goals as goal
 
 pub returns-in_default : goal.returns-in_default
-returns-in_default c = search glyph_stopped
+returns-in_default c = search (glyph_stopped, c.in_default.not-Range)
 
 pub overflow_sub-index : goal.overflow_sub-index
 overflow_sub-index c = search first_pos

@@ -3,7 +3,7 @@ use Rattle.mapping.proofs.Entries.{refusal_ill_formed, refusal_none, refusal_lim
 use Rattle.mapping.proofs.stop_refusal.Goals as goal
 
 pub returns-in_default : goal.returns-in_default
-returns-in_default c = search refusal_ill_formed
+returns-in_default c = search (refusal_ill_formed, c.in_default.not-End)
 
 pub returns-then-count-le65536 : goal.returns-then-count-le65536
 returns-then-count-le65536 c = search refusal_none

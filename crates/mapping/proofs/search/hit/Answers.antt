@@ -1,5 +1,4 @@
 -- The invariant: nothing begins at a byte passed that counts for more than was found. Assumes nothing.
-use Prim.Native.Nat.{◌-◌}
 use native.Mathlib.Omega.{arith}
 use Rattle.mapping.proofs.Blocks.{hit_more, hit_fits, hit_whole}
 use borrow.Author.Rules.{rules}

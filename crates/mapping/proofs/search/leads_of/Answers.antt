@@ -1,5 +1,4 @@
 -- The invariant: the lead bytes among those passed that stand before n are counted. Assumes nothing.
-use Prim.Native.Nat.{◌-◌}
 use Rattle.mapping.proofs.Blocks.{counted_start, counted_more, counted-fits, counted-all}
 use borrow.Author.Rules.{rules}
 use Rattle.mapping.proofs.search.leads_of.Goals as goal

@@ -1,5 +1,4 @@
 -- The invariant: what was passed over. Assumes nothing.
-use Prim.Native.Nat.{◌-◌}
 use Rattle.mapping.proofs.Blocks.{passes_lead, upto_fits, passes_hit, through_fits, passes_through}
 use Rattle.mapping.proofs.search.pass.Goals as goal
 

@@ -1,5 +1,4 @@
 -- The invariant: what was passed over, all below `lead`. Assumes nothing.
-use Prim.Native.Nat.{◌-◌}
 use Rattle.mapping.proofs.Blocks.{below_more, below_lead, below_past}
 use Rattle.mapping.proofs.search.pass_below.Goals as goal
 

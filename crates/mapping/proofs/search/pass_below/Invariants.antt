@@ -5,7 +5,7 @@ use Rattle.mapping.specs.Search.{Below}
 use Rattle.mapping.proofs.search.pass_below.Given as goal
 
 abbrev pub invariant-loop-at : goal.invariant-loop-at
-invariant-loop-at l = Below l.mapping l.lead l.from (record { l.at = l.at; l.count = l.count })
+invariant-loop-at l = Below l.mapping l.lead l.from (record { at = l.at; count = l.count })
 
 abbrev pub decreases-loop-at : goal.decreases-loop-at
 decreases-loop-at l = length l.mapping - l.at

@@ -1,5 +1,4 @@
 -- The invariant: what was passed over. Assumes nothing.
-use Prim.Native.Nat.{◌-◌}
 use Rattle.mapping.proofs.Blocks.{below_none, block_fits, below_block}
 use Rattle.mapping.proofs.search.pass_blocks.Goals as goal
 

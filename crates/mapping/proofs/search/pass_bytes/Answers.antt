@@ -1,5 +1,4 @@
 -- The invariant: what was passed over. Assumes nothing.
-use Prim.Native.Nat.{◌-◌}
 use Rattle.mapping.proofs.Blocks.{passes_none, byte_fits, passes_byte, skips_begin, skips_past}
 use Rattle.mapping.proofs.search.pass_bytes.Goals as goal
 

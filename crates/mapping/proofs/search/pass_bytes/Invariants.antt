@@ -5,7 +5,7 @@ use Rattle.mapping.specs.Search.{Passes}
 use Rattle.mapping.proofs.search.pass_bytes.Given as goal
 
 abbrev pub invariant-loop-at : goal.invariant-loop-at
-invariant-loop-at l = Passes l.mapping l.needle l.from (record { l.at = l.at; l.count = l.count })
+invariant-loop-at l = Passes l.mapping l.needle l.from (record { at = l.at; count = l.count })
 
 abbrev pub decreases-loop-at : goal.decreases-loop-at
 decreases-loop-at l = length l.mapping - l.at

@@ -1,5 +1,4 @@
 -- The invariant: the bytes passed are bounded, and their lead bytes are counted. Assumes nothing.
-use Prim.Native.Nat.{◌-◌}
 use native.Mathlib.Omega.{arith}
 use Rattle.mapping.proofs.Blocks.{leads-start, leads_more, leads-fits, bounded_more, block_whole}
 use borrow.Author.Rules.{rules}
