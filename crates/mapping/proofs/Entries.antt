@@ -6,16 +6,13 @@ use mathlib.Core.List.{List, [], ◌∷◌, ◌++◌}
 use Prim.Native.Nat.{ℕ, zero, suc, ◌-◌, ◌<◌, ◌≤◌}
 use native.Mathlib.Omega.{arith}
 use borrow.Author.Tests.{le-leb, lt-leb}
-use denote.Enum.Declared.{tag_of}
 use lib.ListN.{length}
-use Rattle.characters.specs.contracts.Step.{the_type}
 use Rattle.characters.specs.declared.Cursor.{Cursor}
 use Rattle.characters.specs.declared.Step.{Step}
 use Rattle.characters.specs.declared.Step.TheVariants.{Character, IllFormed, End}
 use Rattle.characters.specs.Utf8.{is_surrogate, step_at, chars_from, well_formed_from}
 use Rattle.characters.proofs.Steps.{step_advances, step_ill_formed, step_end}
 use Rattle.characters.proofs.Folds.{Stopped, ill_formed_stopped, end_stopped, stopped_cases, chars-character, chars_stopped, well_formed-character, well_formed_stopped, well_formed_past}
-use Rattle.mapping.specs.contracts.Entry.{the_type as entry-type}
 use Rattle.mapping.specs.declared.Entry.{Entry}
 use Rattle.mapping.specs.declared.Entry.TheVariants as entry
 use Rattle.mapping.specs.Entries.{entry_at, entry_of, start_of, end_of, stop_of, stop_refusal}

@@ -1,20 +1,18 @@
 -- `find`, `glyph_with`, `glyph_of` and `check_mapping`: a law for each fact that they need, where x is the entry at a position. Assumes nothing.
 use mathlib.Core.Path.{◌≡◌, refl, sym, ◌∙◌, ap}
-use mathlib.Core.Logic.{◌⊎◌, ⊎_elim}
+use mathlib.Core.Logic.{⊎_elim}
 use mathlib.Core.Bool.{Bool, true, false, cond, and-eq-true_iff, true≢false}
 use mathlib.Core.List.{List, [], ◌∷◌}
 use Prim.Native.Nat.{ℕ, suc, ◌+◌, ◌-◌, ◌^◌, ◌<◌, ◌≤◌, min}
 use native.Mathlib.Omega.{arith}
 use native.Mathlib.Decide.{dec_lt}
 use borrow.Author.Tests.{leb-true, not-true, le-leb, lt-leb}
-use denote.Enum.Declared.{tag_of}
 use lib.ListN.{length, length-append}
 use lib.Dec.{leb, eqb}
 use mir.Val.{Fits}
 use mir.Syntax.{w32, w64}
 use Rattle.characters.specs.declared.Cursor.{Cursor}
 use Rattle.characters.specs.Utf8.{is_surrogate, chars_from, well_formed_from}
-use Rattle.mapping.specs.contracts.Entry.{the_type as entry-type}
 use Rattle.mapping.specs.declared.Entry.{Entry}
 use Rattle.mapping.specs.declared.Entry.TheVariants as entry
 use Rattle.mapping.specs.declared.Found.{Found}

@@ -1,13 +1,11 @@
 -- What `skip` passes over: a character for each lead byte, none of which is looked for. Assumes nothing.
 use mathlib.Core.Path.{◌≡◌, refl, sym, ◌∙◌}
-use mathlib.Core.Logic.{◌⊎◌, inl}
 use mathlib.Core.Bool.{Bool, true, false, ◌||◌, true≢false}
 use mathlib.Core.List.{List, ◌∷◌}
 use Prim.Native.Nat.{ℕ, zero, suc, ◌+◌, ◌-◌, ◌<◌, ◌≤◌, min}
 use native.Mathlib.Omega.{arith}
 use native.Mathlib.Decide.{dec_lt}
 use borrow.Author.Tests.{eq-eqb, ne_eqb}
-use denote.Enum.Declared.{tag_of}
 use lib.ListN.{length, get_or}
 use lib.Dec.{eqb}
 use Rattle.characters.specs.declared.Cursor.{Cursor}
@@ -16,7 +14,6 @@ use Rattle.characters.specs.declared.Step.TheVariants.{Character, IllFormed, End
 use Rattle.characters.specs.Utf8.{step_at, chars_from, well_formed_from}
 use Rattle.characters.proofs.Steps.{step_advances, step_end}
 use Rattle.characters.proofs.Folds.{ill_formed_stopped, chars-character, well_formed-character, well_formed_stopped}
-use Rattle.mapping.specs.contracts.Entry.{the_type}
 use Rattle.mapping.specs.declared.search.Needle.{Needle}
 use Rattle.mapping.specs.declared.search.Passed.{Passed}
 use Rattle.mapping.specs.declared.Entry.{Entry}

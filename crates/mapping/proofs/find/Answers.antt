@@ -1,5 +1,4 @@
 -- The invariant: the position in the rest, counted on from what was passed, is the position from the first cursor on. Assumes nothing.
-use Prim.Native.Nat.{◌-◌}
 use Rattle.mapping.proofs.Places.{entry_within, count_fits, found_fits, found_pos, found_at, find_again, walk_again}
 use Rattle.mapping.proofs.Skipped.{skip_well, skip_again, skip_stopped, skip_less, capped}
 use borrow.Author.Rules.{rules}

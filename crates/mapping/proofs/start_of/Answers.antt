@@ -1,7 +1,6 @@
 -- The first entry, and bytes after it that are passed over, or none. Assumes nothing.
 use Rattle.mapping.proofs.Blocks.{skips_below_none}
 use Rattle.mapping.proofs.Places.{after-within, start_made}
-use borrow.Author.Rules.{rules}
 use Rattle.mapping.proofs.start_of.Goals as goal
 
 pub overflow_sub-mapping : goal.overflow_sub-mapping
@@ -13,8 +12,8 @@ returns-then-mapping-at-lt128 c = search (start_made, skips_below_none, after-wi
 pub returns-then-lead-lt192 : goal.returns-then-lead-lt192
 returns-then-lead-lt192 c = search (start_made, skips_below_none, after-within)
 
-pub pass_below-passed-requires : goal.pass_below-passed-requires
-pass_below-passed-requires c = (search after-within, search rules)
+pub pass_below-passed-requires-clause-from_in_bounds : goal.pass_below-passed-requires-clause-from_in_bounds
+pass_below-passed-requires-clause-from_in_bounds c = search after-within
 
 pub returns : goal.returns
 returns c = search start_made

@@ -2,7 +2,6 @@
 use Rattle.mapping.proofs.Blocks.{join-fits}
 use Rattle.mapping.proofs.Sequences.{needle_found}
 use Rattle.mapping.proofs.Skipped.{skips_none, skips_needle}
-use borrow.Author.Rules.{rules}
 use Rattle.mapping.proofs.search.skip.Goals as goal
 
 pub returns-then-mapping-from : goal.returns-then-mapping-from
@@ -17,8 +16,8 @@ returns-then-is_near c = search skips_none
 pub pass-blocks-requires-clause-needle : goal.pass-blocks-requires-clause-needle
 pass-blocks-requires-clause-needle c = search needle_found
 
-pub pass_bytes-bytes-requires : goal.pass_bytes-bytes-requires
-pass_bytes-bytes-requires c = (search rules, search needle_found)
+pub pass_bytes-bytes-requires-clause-needle : goal.pass_bytes-bytes-requires-clause-needle
+pass_bytes-bytes-requires-clause-needle c = search needle_found
 
 pub overflow_add-count : goal.overflow_add-count
 overflow_add-count c = search join-fits
