@@ -1,5 +1,4 @@
 -- `after_bytes` meets its contract: if the bytes to come stand from here on, all of them stand from the position on. Assumes nothing.
-use Prim.Native.Nat.{◌-◌}
 use Rattle.bdf_lines.proofs.Stands.{bytes_none, matches_start, matches_again, bytes_found}
 use Rattle.bdf_lines.proofs.forms.after_bytes.Goals as goal
 

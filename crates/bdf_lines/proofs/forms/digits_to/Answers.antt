@@ -1,5 +1,4 @@
 -- `digits_to` meets its contract: the digits to come go on with the number so far. Assumes nothing.
-use Prim.Native.Nat.{◌-◌}
 use borrow.Author.Rules.{rules}
 use Rattle.bdf_lines.proofs.Numbers.{passed}
 use Rattle.bdf_lines.proofs.Stands.{running_start, running_again, digits_none, digits_found}

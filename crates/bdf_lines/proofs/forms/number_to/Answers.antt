@@ -1,8 +1,12 @@
 -- `number_to` meets its contract: digits after a sign, or digits alone. Assumes nothing.
-use mathlib.Core.Logic.{⊎_elim}
 use Rattle.bdf_lines.proofs.Stands.{number_minus, number_plain}
--- `number_to` meets its contract: digits after a sign, or digits alone. Assumes nothing.
 use Rattle.bdf_lines.proofs.forms.number_to.Goals as goal
+use Rattle.bdf_lines.proofs.forms.number_to.Goals.{then-from-file+then-file-from-eq45, then-from-file+else-file-from-eq45, else-from-file}
 
 pub returns : goal.returns
-returns c = ⊎_elim (λ w. search number_minus) (λ w. ⊎_elim (λ v. search number_plain) (λ v. search number_plain) w) c.if-from-file.branch
+returns c =
+    elim c.if-from-file.branch [
+      | then-from-file+then-file-from-eq45 w ↦ search number_minus
+      | then-from-file+else-file-from-eq45 w ↦ search number_plain
+      | else-from-file w ↦ search number_plain
+    ]

@@ -1,5 +1,4 @@
 -- `digits` meets its contract. The invariant: the digits to come, after the number so far, say what the word says. Assumes nothing.
-use Prim.Native.Nat.{◌-◌}
 use borrow.Author.Rules.{rules}
 use Rattle.bdf_lines.proofs.Numbers.{passed, failed, digits_none, digits-start, digits_wrong, digits_again, digits_end}
 use Rattle.bdf_lines.proofs.values.digits.Goals as goal

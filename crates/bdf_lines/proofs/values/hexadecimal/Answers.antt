@@ -1,6 +1,5 @@
 -- `hexadecimal` meets its contract. The invariant: if all digits so far are digits, i of them are below 16 ^ i, and the digits to come, after their number, say what
 -- all of them say; if one is none, the answer is Wrong. Assumes nothing.
-use Prim.Native.Nat.{◌-◌}
 use Rattle.bdf_lines.proofs.Numbers.{hex_start, hex_again, hex_end, hex_wrong}
 use Rattle.bdf_lines.proofs.values.hexadecimal.Goals as goal
 

@@ -1,5 +1,4 @@
 -- `same` meets its contract: words of one length are the same if what is left of them is, after each byte that agrees. Assumes nothing.
-use Prim.Native.Nat.{◌-◌}
 use Rattle.bdf_lines.proofs.Positions.{other_length, differ_here, same_later, same_past}
 use Rattle.bdf_lines.proofs.words.same.Goals as goal
 

@@ -1,5 +1,4 @@
 -- `word_end` meets its contract: from each byte before the word's end what is left of the word reaches to that end. Assumes nothing.
-use Prim.Native.Nat.{◌-◌}
 use Rattle.bdf_lines.proofs.Positions.{end_here, end_later, end_past}
 use Rattle.bdf_lines.proofs.words.word_end.Goals as goal
 

@@ -1,5 +1,4 @@
 -- `word_start` meets its contract: from each blank before the word what is left of the blanks reaches to that word. Assumes nothing.
-use Prim.Native.Nat.{◌-◌}
 use Rattle.bdf_lines.proofs.Positions.{start_here, start_later, start_past}
 use Rattle.bdf_lines.proofs.words.word_start.Goals as goal
 
