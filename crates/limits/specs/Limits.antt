@@ -10,7 +10,7 @@ use Rattle.limits.specs.declared.ItemFields.{ItemFields}
 
 -- "length outside limits, or unlike the length field; header zero field not 0"
 abbrev pub length_tests : HeaderFields → List Bool
-length_tests h = leb 24 h.file_length ∷ leb h.file_length 65_536 ∷ eqb h.whole_length_lem h.file_length ∷ eqb h.zero 0 ∷ []
+length_tests h = leb 24 h.file_length ∷ leb h.file_length 65_536 ∷ eqb h.whole_length h.file_length ∷ eqb h.zero 0 ∷ []
 
 -- "frame outside limits"
 abbrev pub frame_tests : HeaderFields → List Bool

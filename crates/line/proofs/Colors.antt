@@ -1,19 +1,15 @@
 -- Colours: when the characters take a grey, that they paint nothing without one, and when an underline counts. Assumes nothing.
 use Prim.Native.Nat.{ℕ, ◌+◌}
-use native.Mathlib.Omega.{arith}
 use mathlib.Core.Path.{◌≡◌, refl, ◌∙◌}
 use mathlib.Core.Bool.{Bool, true, false, true≢false}
 use mathlib.Mathlib.Data.Bool.Basic.{or-eq-false-eq-eq-false-and-eq-false}
 use mathlib.Core.List.{List, [], ◌∷◌}
-use mathlib.Core.Logic.{◌⊎◌, inl, inr}
-use denote.Enum.Declared.{tag_of}
 use Rattle.geometry.specs.declared.OptionalGrey.{OptionalGrey}
 use Rattle.geometry.specs.declared.OptionalGrey.TheVariants.{Unset, Set}
 use Rattle.geometry.specs.Rectangle.{rectangle}
 use Rattle.geometry.specs.Layer.{filled}
 use Rattle.geometry.proofs.Layers.{within_none}
 use Rattle.atlas.proofs.Glyphs.{glyph_unset}
-use Rattle.line.specs.contracts.DecorationColor.{the_type}
 use Rattle.line.specs.declared.MonoFont.{MonoFont}
 use Rattle.line.specs.declared.DecorationColor.{DecorationColor}
 use Rattle.line.specs.declared.DecorationColor.TheVariants.{None, TextColor, Custom}
@@ -21,13 +17,12 @@ use Rattle.line.specs.declared.MonoTextStyle.{MonoTextStyle}
 use Rattle.line.specs.Line.{Font, character_width, character_height, spacing, text_color, background_color, is_set, is_painted, character, glyphs, is_none, measured_height}
 
 -- the `_` of a match that has taken `None`
-not_none : (d : DecorationColor) → (tag_of the_type d ≡ 1) ⊎ (tag_of the_type d ≡ 2) → is_none d ≡ false
-not_none None (inl e) = absurd (omega arith)
-not_none None (inr e) = absurd (omega arith)
+not_none : (d : DecorationColor) → (d ≡ None → ⊥) → is_none d ≡ false
+not_none None e = absurd (e refl)
 not_none TextColor e = refl
 not_none (Custom g) e = refl
 
-pub measured_underlined : (m : MonoFont) (s : MonoTextStyle) → (tag_of the_type s.underline_color ≡ 1) ⊎ (tag_of the_type s.underline_color ≡ 2)
+pub measured_underlined : (m : MonoFont) (s : MonoTextStyle) → (s.underline_color ≡ None → ⊥)
     → m.underline.offset + m.underline.height ≡ measured_height m s
 unfolding measured_height
 measured_underlined m s t = rw (not_none s.underline_color t)

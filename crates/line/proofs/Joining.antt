@@ -5,20 +5,18 @@
 use Prim.Native.Nat.{ℕ, zero, suc, ◌+◌, ◌*◌}
 use native.Mathlib.Nat.{mul-zero}
 use native.Mathlib.Omega.{arith}
-use mathlib.Core.Path.{◌≡◌, refl, sym, ap, ◌∙◌}
+use mathlib.Core.Path.{◌≡◌, refl, ap, ◌∙◌}
 use mathlib.Core.Bool.{Bool, true, false, cond}
 use mathlib.Core.List.{List, [], ◌∷◌, ◌++◌, map, map-append}
 use lib.ListN.{length, length-append, length-map}
 use Rattle.geometry.specs.declared.OptionalGrey.{OptionalGrey}
-use Rattle.geometry.specs.Rectangle.{rectangle}
-use Rattle.geometry.specs.Layer.{over, filled}
 use Rattle.geometry.proofs.Beside.{Joined, EndsAt, StartsAt, part_by_part, over_ends, filled_ends, filled_starts, filled_joined}
 use Rattle.characters.specs.Utf8.{chars, well_formed}
 use Rattle.characters.proofs.Parts.{chars-append}
 use Rattle.line.specs.declared.DecorationDimensions.{DecorationDimensions}
 use Rattle.line.specs.declared.MonoFont.{MonoFont}
 use Rattle.line.specs.declared.MonoTextStyle.{MonoTextStyle}
-use Rattle.line.specs.Line.{Font, character_width, character_height, spacing, background_color, is_painted, to_color, glyphs, spaced, advance, decoration, decorations, glyph_index, line_glyphs, string, whitespace}
+use Rattle.line.specs.Line.{Font, character_width, character_height, spacing, background_color, is_painted, glyphs, spaced, advance, decoration, decorations, glyph_index, line_glyphs, string, whitespace}
 use Rattle.line.proofs.Advances.{walked, walked_end, walked_next, walked_spaced}
 use Rattle.line.proofs.Ink.{glyphs_out}
 

@@ -18,7 +18,7 @@ use Rattle.sheet.specs.Pieces.{Piece, pieces}
 unfoldable pub header_fields : List ℕ → HeaderFields
 header_fields b = record {
   file_length = length b;
-  whole_length_lem = Fields.whole_length b;
+  whole_length = Fields.whole_length b;
   zero = Fields.header_zero b;
   edition = Fields.edition b;
   width = Fields.frame_width b;
