@@ -6,54 +6,53 @@
 ghost use Rattle.std.specs.Prelude.{◌<◌, ◌≤◌, length};
 ghost use Rattle.mapping.specs.Entries.{WithinLimit};
 
-use bytes::scan::find;
 use characters::{Cursor, Step};
-use libc::{STDIN_FILENO, STDOUT_FILENO};
 use mapping::Glyph;
 use numbers::{byte_or_zero, wide};
+use reading::read_full;
 
 // ---- what is written
 
-fn write(text: &[u8]) {
-    io::write_all(STDOUT_FILENO, text);
+// Writes a text; a write that fails is let pass.
+fn write(out: &impl Print, text: &[u8]) {
+    let _ = out.write_all(text);
 }
 
 // Writes a number in decimal after a text.
-fn write_number(text: &[u8], n: u64) {
-    write(text);
-    io::print_decimal(STDOUT_FILENO, n);
+fn write_number(out: &impl Print, text: &[u8], n: u64) {
+    write(out, text);
+    let _ = print!(out; "{n}");
 }
 
 // Writes a number in hexadecimal after a blank, in at least so many digits.
-fn write_hex(n: u32, digits: usize) {
-    write(b" ");
-    io::print_hex(STDOUT_FILENO, n as u64, digits);
+fn write_hex(out: &impl Print, n: u32, digits: usize) {
+    let _ = print!(out; " {n:0digits$x}");
 }
 
-fn write_bytes(bytes: &[u8]) {
+fn write_bytes(out: &impl Print, bytes: &[u8]) {
     let mut i = 0;
     while i < bytes.len() {
-        write_hex(wide(bytes[i]), 2);
+        write_hex(out, wide(bytes[i]), 2);
         i += 1;
     }
-    write(b":");
+    write(out, b":");
 }
 
 // ---- what is found
 
 // The characters that a text spells, and where a sequence is not allowed, with its refusal as a new text.
-fn show_text(bytes: &[u8]) {
+fn show_text(out: &impl Print, bytes: &[u8]) {
     let mut c = Cursor { at: 0 };
     while c.at < bytes.len() {
         let Step::Character(ch, after) = characters::next(bytes, c) else {
-            write_number(b" ill-formed at ", c.at as u64);
-            write_number(b", refused ", characters::walk(bytes, 14) as u64);
+            write_number(out, b" ill-formed at ", c.at as u64);
+            write_number(out, b", refused ", characters::walk(bytes, 14) as u64);
             return;
         };
-        write_hex(ch, 4);
+        write_hex(out, ch, 4);
         c = after;
     }
-    write_number(b", characters: ", characters::count(bytes) as u64);
+    write_number(out, b", characters: ", characters::count(bytes) as u64);
 }
 
 fn one_if(yes: bool) -> u32
@@ -79,13 +78,13 @@ fn listed(mapping: &[u8]) -> u32
 }
 
 // A mapping's refusal, or how many characters it lists.
-fn show_mapping(mapping: &[u8]) {
+fn show_mapping(out: &impl Print, mapping: &[u8]) {
     let refusal = mapping::check_mapping(mapping);
     if refusal != 0 {
-        write_number(b" refused ", refusal as u64);
+        write_number(out, b" refused ", refusal as u64);
         return;
     }
-    write_number(b" fits, lists ", listed(mapping) as u64);
+    write_number(out, b" fits, lists ", listed(mapping) as u64);
 }
 
 // The glyph of a character in a mapping with replacement 9; index 0 and not listed in a mapping that is refused.
@@ -107,44 +106,44 @@ fn character_of(bytes: &[u8]) -> u32 {
 }
 
 // The index of a character, and whether it is listed.
-fn show_glyph(bytes: &[u8]) {
+fn show_glyph(out: &impl Print, bytes: &[u8]) {
     if bytes.len() < 3 {
         return;
     }
     let ch = character_of(bytes);
     let glyph = glyph_in(&bytes[3..], ch);
-    write_hex(ch, 4);
-    write_number(b" is ", glyph.index as u64);
+    write_hex(out, ch, 4);
+    write_number(out, b" is ", glyph.index as u64);
     if glyph.listed {
-        write(b", listed");
+        write(out, b", listed");
     }
 }
 
 // What the check says of a sheet.
-fn show_sheet(sheet: &[u8]) {
+fn show_sheet(out: &impl Print, sheet: &[u8]) {
     let refusal = sheet::check(sheet);
     if refusal != 0 {
-        write_number(b" refused ", refusal as u64);
+        write_number(out, b" refused ", refusal as u64);
         return;
     }
-    write(b" accepted");
+    write(out, b" accepted");
 }
 
-fn show(kind: u8, bytes: &[u8]) {
-    write_bytes(bytes);
+fn show(out: &impl Print, kind: u8, bytes: &[u8]) {
+    write_bytes(out, bytes);
     if kind == b't' {
-        show_text(bytes);
+        show_text(out, bytes);
         return;
     }
     if kind == b'm' {
-        show_mapping(bytes);
+        show_mapping(out, bytes);
         return;
     }
     if kind == b'i' {
-        show_glyph(bytes);
+        show_glyph(out, bytes);
         return;
     }
-    show_sheet(bytes);
+    show_sheet(out, bytes);
 }
 
 // ---- a line of input
@@ -188,37 +187,32 @@ fn byte_count(at: usize) -> usize
     64
 }
 
-fn show_line(line: &[u8]) {
+fn show_line(out: &impl Print, line: &[u8]) {
     let size = line.len();
-    let at = find(line, 0, size, b'=');
+    let Some(at) = line.iter().position(|byte| *byte == b'=') else {
+        return;
+    };
     if size - at < 2 {
         return;
     }
     let name = at + 2;
-    write(&line[name..size]);
-    write(b":");
+    write(out, &line[name..size]);
+    write(out, b":");
     let mut buffer = [0u8; 64];
     let bytes = &mut buffer[0..byte_count(at)];
     read_bytes(line, bytes);
-    show(byte_or_zero(line, 0), &bytes[..]);
-    write(b"\n");
+    show(out, byte_or_zero(line, 0), &bytes[..]);
+    write(out, b"\n");
 }
 
-fn show_lines(text: &[u8]) {
-    let size = text.len();
-    let mut from = 0;
-    loop {
-        let to = find(text, from, size, 0x0A);
-        show_line(&text[from..to]);
-        if to == size {
-            return;
-        }
-        from = to + 1;
+fn show_lines(out: &impl Print, text: &[u8]) {
+    for line in text.split(|byte| *byte == 0x0A) {
+        show_line(out, line);
     }
 }
 
-fn main() {
+fn main(rt: HostRuntime) {
     let mut text = [0u8; 8192];
-    let n = io::read_full(STDIN_FILENO, &mut text);
-    show_lines(&text[..n]);
+    let n = read_full(&mut rt.stdin(), &mut text);
+    show_lines(&rt, &text[..n]);
 }
