@@ -5,12 +5,11 @@
 
 ghost use Rattle.std.specs.Prelude.{◌<◌, ◌≤◌};
 
-use check::same;
 use entries::signed;
 use geometry::numbers::{greatest, minus};
-use libc::STDIN_FILENO;
 use numbers::{byte_or_zero, wide};
 use programs::{checksum, fill_strange, write_either, write_line, write_number, write_word};
+use reading::read_full;
 use replay::{
     after, area_of, edit, edit_on_sheet, least, length_at, part, rest, same_batch, same_reply,
     store, u16_of, u32_of,
@@ -198,7 +197,7 @@ fn batch_of(code: u32, made: u32, area: Box) -> Batch {
 
 // The reply to a batch with one more edit.
 fn with_edit(batch: Batch, edit: Box) -> Batch {
-    let made = std::num::wrapping_add_u32(batch.made, 1);
+    let made = batch.made.wrapping_add(1);
     batch_of(0, made, join(area_of(batch), edit))
 }
 
@@ -242,10 +241,10 @@ struct Made {
 }
 
 // Makes an edit both ways and writes its code.
-fn make_single(patched: &mut [u8], frame: &mut [u8], fresh: &mut [u8], bytes: &[u8]) -> Made {
+fn make_single(out: &impl Print, patched: &mut [u8], frame: &mut [u8], fresh: &mut [u8], bytes: &[u8]) -> Made {
     let reply = make_with_frame(patched, frame, bytes);
     let other = make_on_sheet(fresh, bytes);
-    write_number(reply.code as u64);
+    write_number(out, reply.code as u64);
     Made {
         area: reply,
         is_same: same_reply(reply, other),
@@ -253,11 +252,11 @@ fn make_single(patched: &mut [u8], frame: &mut [u8], fresh: &mut [u8], bytes: &[
 }
 
 // Makes a batch both ways and writes its code and how many edits were made.
-fn make_batch(patched: &mut [u8], frame: &mut [u8], fresh: &mut [u8], list: &[u8]) -> Made {
+fn make_batch(out: &impl Print, patched: &mut [u8], frame: &mut [u8], fresh: &mut [u8], list: &[u8]) -> Made {
     let reply = station::station_edit_list(patched, frame, list);
     let other = make_counted(fresh, list, reply);
-    write_number(reply.code as u64);
-    write_number(reply.made as u64);
+    write_number(out, reply.code as u64);
+    write_number(out, reply.made as u64);
     Made {
         area: area_of(reply),
         is_same: same_batch(reply, other),
@@ -268,31 +267,31 @@ fn is_batch(bytes: &[u8]) -> bool {
     byte_or_zero(bytes, 0) == 3
 }
 
-fn make_either(patched: &mut [u8], frame: &mut [u8], fresh: &mut [u8], bytes: &[u8]) -> Made {
+fn make_either(out: &impl Print, patched: &mut [u8], frame: &mut [u8], fresh: &mut [u8], bytes: &[u8]) -> Made {
     if is_batch(bytes) {
-        return make_batch(patched, frame, fresh, data_of(bytes));
+        return make_batch(out, patched, frame, fresh, data_of(bytes));
     }
-    make_single(patched, frame, fresh, bytes)
+    make_single(out, patched, frame, fresh, bytes)
 }
 
-fn write_area(area: Box) {
-    write_number(natural(area.left) as u64);
-    write_number(natural(area.top) as u64);
-    write_number(area.width as u64);
-    write_number(area.height as u64);
+fn write_area(out: &impl Print, area: Box) {
+    write_number(out, natural(area.left) as u64);
+    write_number(out, natural(area.top) as u64);
+    write_number(out, area.width as u64);
+    write_number(out, area.height as u64);
 }
 
 // Writes whether both ways replied the same and left the same sheet; `refused` for a list that is turned down whole, of which no reply is formed.
-fn write_same_edit(code: u32, is_same: bool, same_sheets: bool) {
+fn write_same_edit(out: &impl Print, code: u32, is_same: bool, same_sheets: bool) {
     if !is_same {
-        write_word(b" different");
+        write_word(out, b" different");
         return;
     }
     if !same_sheets {
-        write_word(b" different sheets");
+        write_word(out, b" different sheets");
         return;
     }
-    write_either(code == 22, b" refused", b" same");
+    write_either(out, code == 22, b" refused", b" same");
 }
 
 fn frame_width(sheet: &[u8]) -> usize {
@@ -301,6 +300,7 @@ fn frame_width(sheet: &[u8]) -> usize {
 
 // Makes an edit or a batch both ways and writes what came of it, and whether the frame outside its rectangle is as it was before.
 fn make_edit(
+    out: &impl Print,
     patched: &mut [u8],
     frame: &mut [u8],
     before: &mut [u8],
@@ -308,22 +308,23 @@ fn make_edit(
     bytes: &[u8],
 ) {
     store(before, 0, &frame[..]);
-    let made = make_either(patched, frame, fresh, bytes);
+    let made = make_either(out, patched, frame, fresh, bytes);
     let area = made.area;
-    write_area(area);
-    write_same_edit(area.code, made.is_same, same(&patched[..], &fresh[..]));
+    write_area(out, area);
+    write_same_edit(out, area.code, made.is_same, patched[..] == fresh[..]);
     let kept = outside_kept(&before[..], &frame[..], frame_width(&patched[..]), area);
-    write_either(kept, b" outside kept\n", b" outside changed\n");
+    write_either(out, kept, b" outside kept\n", b" outside changed\n");
 }
 
-fn write_head(bytes: &[u8], number: u64) {
-    write_either(is_batch(bytes), b"batch", b"edit");
-    write_number(number);
-    write_word(b":");
+fn write_head(out: &impl Print, bytes: &[u8], number: u64) {
+    write_either(out, is_batch(bytes), b"batch", b"edit");
+    write_number(out, number);
+    write_word(out, b":");
 }
 
 // Makes the edits and batches of a list, each with its number at the head of its line.
 fn make_edits(
+    out: &impl Print,
     patched: &mut [u8],
     frame: &mut [u8],
     before: &mut [u8],
@@ -334,44 +335,45 @@ fn make_edits(
     let mut at = 0;
     while at < list.len() {
         number += 1;
-        write_head(rest(list, at), number);
-        make_edit(patched, frame, before, fresh, rest(list, at));
+        write_head(out, rest(list, at), number);
+        make_edit(out, patched, frame, before, fresh, rest(list, at));
         at = after(at, edit_size(rest(list, at)), list.len());
     }
 }
 
 // ---- the two runs
 
-fn write_same(text: &[u8], is_same: bool) {
-    write_word(text);
-    write_either(is_same, b" same\n", b" different\n");
+fn write_same(out: &impl Print, text: &[u8], is_same: bool) {
+    write_word(out, text);
+    write_either(out, is_same, b" same\n", b" different\n");
 }
 
 // Two copies of the sheet, and the page of it on a strange frame.
-fn start(sheet: &[u8], patched: &mut [u8], frame: &mut [u8], fresh: &mut [u8]) {
+fn start(out: &impl Print, sheet: &[u8], patched: &mut [u8], frame: &mut [u8], fresh: &mut [u8]) {
     store(patched, 0, sheet);
     store(fresh, 0, sheet);
     fill_strange(frame, 11);
-    write_line(b"drawing", station::station_draw(sheet, frame) as u64);
+    write_line(out, b"drawing", station::station_draw(sheet, frame) as u64);
 }
 
 // Compares the edited sheets and the frames, and writes their checksums.
-fn write_outcome(patched: &[u8], fresh: &[u8], frame: &[u8], page: &[u8]) {
-    write_same(b"sheets", same(patched, fresh));
-    write_same(b"frames", same(frame, page));
-    write_line(b"sheet", checksum(0, patched));
-    write_line(b"frame", checksum(0, frame));
+fn write_outcome(out: &impl Print, patched: &[u8], fresh: &[u8], frame: &[u8], page: &[u8]) {
+    write_same(out, b"sheets", patched == fresh);
+    write_same(out, b"frames", frame == page);
+    write_line(out, b"sheet", checksum(0, patched));
+    write_line(out, b"frame", checksum(0, frame));
 }
 
 // Draws the edited sheet on a second strange frame, and compares it and the page with what the edits left.
-fn finish(patched: &[u8], frame: &[u8], fresh: &[u8], page: &mut [u8]) {
+fn finish(out: &impl Print, patched: &[u8], frame: &[u8], fresh: &[u8], page: &mut [u8]) {
     fill_strange(page, 100);
-    write_line(b"drawing", station::station_draw(fresh, page) as u64);
-    write_outcome(patched, fresh, frame, &page[..]);
+    write_line(out, b"drawing", station::station_draw(fresh, page) as u64);
+    write_outcome(out, patched, fresh, frame, &page[..]);
 }
 
 // Makes the list both ways and compares what stands in the end.
 fn compare(
+    out: &impl Print,
     sheet: &[u8],
     list: &[u8],
     patched: &mut [u8],
@@ -379,24 +381,24 @@ fn compare(
     before: &mut [u8],
     fresh: &mut [u8],
 ) {
-    start(sheet, patched, frame, fresh);
-    make_edits(patched, frame, before, fresh, list);
-    finish(&patched[..], &frame[..], &fresh[..], before);
+    start(out, sheet, patched, frame, fresh);
+    make_edits(out, patched, frame, before, fresh, list);
+    finish(out, &patched[..], &frame[..], &fresh[..], before);
 }
 
 // Makes the list on two sheets that are lent, and two frames.
-fn with_frames(sheet: &[u8], list: &[u8], patched: &mut [u8], fresh: &mut [u8], area: usize)
+fn with_frames(out: &impl Print, sheet: &[u8], list: &[u8], patched: &mut [u8], fresh: &mut [u8], area: usize)
     requires { area ≤ 65536 }
 {
     let mut all_frame = [0u8; 65536];
     let mut all_before = [0u8; 65536];
     let frame = &mut all_frame[0..area];
     let before = &mut all_before[0..area];
-    compare(sheet, list, patched, frame, before, fresh);
+    compare(out, sheet, list, patched, frame, before, fresh);
 }
 
 // Makes the list on two sheets.
-fn with_input(input: &[u8]) {
+fn with_input(out: &impl Print, input: &[u8]) {
     let mut all_patched = [0u8; 65536];
     let mut all_fresh = [0u8; 65536];
     let size = length_at(input, 0);
@@ -404,11 +406,11 @@ fn with_input(input: &[u8]) {
     let fresh = &mut all_fresh[0..size];
     let sheet = part(input, 8, size);
     let list = rest(input, 8 + size);
-    with_frames(sheet, list, patched, fresh, length_at(input, 4));
+    with_frames(out, sheet, list, patched, fresh, length_at(input, 4));
 }
 
-fn main() {
+fn main(rt: HostRuntime) {
     let mut input = [0u8; 65537];
-    let n = io::read_full(STDIN_FILENO, &mut input);
-    with_input(&input[..n]);
+    let n = read_full(&mut rt.stdin(), &mut input);
+    with_input(&rt, &input[..n]);
 }

@@ -8,17 +8,15 @@
 ghost use Rattle.std.specs.Prelude.{◌+◌, ◌<◌, ◌≤◌};
 
 use calls::replies::refused_drawn;
-use check::same;
 use entries::signed;
-use libc::STDIN_FILENO;
 use numbers::byte_or_zero;
 use programs::{checksum, fill_strange, pixel_count, write_either, write_number, write_word};
+use reading::read_full;
 use replay::{after, length_at, part, rest, store, u16_of, u32_of};
 use station::{
     Drawn, station_draw_item, station_draw_whitespace, station_set_place_on_sheet,
     station_set_style_on_sheet, station_set_text_on_sheet, station_walk,
 };
-use std::num::{wrapping_add_u32, wrapping_add_u64};
 
 // How often the two ways gave the same, how often not, and how often a call was refused; of what was drawn at once, how many characters were
 // replaced, and the checksum of the frames.
@@ -162,7 +160,7 @@ fn draw_behind(sheet: &mut [u8], frame: &mut [u8], case: &[u8], cut: usize, firs
         code: second.code,
         x: second.x,
         y: second.y,
-        replaced: wrapping_add_u32(first.replaced, second.replaced),
+        replaced: first.replaced.wrapping_add(second.replaced),
     }
 }
 
@@ -189,7 +187,7 @@ fn with_whole(tally: Tally, whole: Drawn, frame: &[u8]) -> Tally {
         same: tally.same,
         different: tally.different,
         refused: tally.refused,
-        replaced: wrapping_add_u64(tally.replaced, whole.replaced as u64),
+        replaced: tally.replaced.wrapping_add(whole.replaced as u64),
         sum: checksum(tally.sum, frame),
     }
 }
@@ -198,31 +196,31 @@ fn with_whole(tally: Tally, whole: Drawn, frame: &[u8]) -> Tally {
 fn with_comparison(tally: Tally, is_refused: bool, is_same: bool) -> Tally {
     let mut next = tally;
     if is_refused {
-        next.refused = wrapping_add_u64(tally.refused, 1);
+        next.refused = tally.refused.wrapping_add(1);
         return next;
     }
     if is_same {
-        next.same = wrapping_add_u64(tally.same, 1);
+        next.same = tally.same.wrapping_add(1);
         return next;
     }
-    next.different = wrapping_add_u64(tally.different, 1);
+    next.different = tally.different.wrapping_add(1);
     next
 }
 
-fn write_tally(case: &[u8], tally: Tally) {
-    write_either(is_whitespace(case), b"whitespace", b"line");
-    write_number(item_of(case) as u64);
-    write_word(b":");
-    write_number(tally.same);
-    write_word(b" same");
-    write_number(tally.different);
-    write_word(b" different");
-    write_number(tally.refused);
-    write_word(b" refused, replaced");
-    write_number(tally.replaced);
-    write_word(b", frames");
-    write_number(tally.sum);
-    write_word(b"\n");
+fn write_tally(out: &impl Print, case: &[u8], tally: Tally) {
+    write_either(out, is_whitespace(case), b"whitespace", b"line");
+    write_number(out, item_of(case) as u64);
+    write_word(out, b":");
+    write_number(out, tally.same);
+    write_word(out, b" same");
+    write_number(out, tally.different);
+    write_word(out, b" different");
+    write_number(out, tally.refused);
+    write_word(out, b" refused, replaced");
+    write_number(out, tally.replaced);
+    write_word(out, b", frames");
+    write_number(out, tally.sum);
+    write_word(out, b"\n");
 }
 
 // ---- the comparisons
@@ -259,7 +257,7 @@ fn try_cut(
     fill_strange(frame, 11);
     let parts = draw_parts(sheet, frame, case, cut);
     let is_refused = (parts.code != 0) | (whole.code != 0);
-    let is_same = same_drawn(parts, whole) & same(&frame[..], page);
+    let is_same = same_drawn(parts, whole) & (frame[..] == *page);
     with_comparison(tally, is_refused, is_same)
 }
 
@@ -298,7 +296,7 @@ fn try_setting(
 }
 
 // Tries a case in all settings, and writes what came of it.
-fn try_case(sheet: &mut [u8], frame: &mut [u8], page: &mut [u8], settings: &[u8], case: &[u8]) {
+fn try_case(out: &impl Print, sheet: &mut [u8], frame: &mut [u8], page: &mut [u8], settings: &[u8], case: &[u8]) {
     let mut tally = Tally {
         same: 0,
         different: 0,
@@ -311,15 +309,15 @@ fn try_case(sheet: &mut [u8], frame: &mut [u8], page: &mut [u8], settings: &[u8]
         tally = try_setting(sheet, frame, page, case, part(settings, at, 16), tally);
         at = after(at, 16, settings.len());
     }
-    write_tally(case, tally);
+    write_tally(out, case, tally);
 }
 
 // Tries the cases of a list.
-fn try_cases(sheet: &mut [u8], frame: &mut [u8], page: &mut [u8], settings: &[u8], cases: &[u8]) {
+fn try_cases(out: &impl Print, sheet: &mut [u8], frame: &mut [u8], page: &mut [u8], settings: &[u8], cases: &[u8]) {
     let mut at = 0;
     while at < cases.len() {
         let case = rest(cases, at);
-        try_case(sheet, frame, page, settings, case);
+        try_case(out, sheet, frame, page, settings, case);
         at = after(at, case_size(case), cases.len());
     }
 }
@@ -331,43 +329,43 @@ fn block_size(block: &[u8]) -> usize {
 }
 
 // Tries the cases of a block on its sheet and two frames.
-fn try_block(block: &[u8], sheet: &mut [u8], frame: &mut [u8], page: &mut [u8]) {
+fn try_block(out: &impl Print, block: &[u8], sheet: &mut [u8], frame: &mut [u8], page: &mut [u8]) {
     let size = length_at(block, 0);
     let behind = 12 + size;
     store(sheet, 0, part(block, 12, size));
     let settings = part(block, behind, length_at(block, 4));
     let cases = part(block, behind + length_at(block, 4), length_at(block, 8));
-    try_cases(sheet, frame, page, settings, cases);
+    try_cases(out, sheet, frame, page, settings, cases);
 }
 
-fn with_frames(block: &[u8], sheet: &mut [u8], pixels: usize)
+fn with_frames(out: &impl Print, block: &[u8], sheet: &mut [u8], pixels: usize)
     requires { pixels ≤ 65536 }
 {
     let mut all_frame = [0u8; 65536];
     let mut all_page = [0u8; 65536];
     let frame = &mut all_frame[0..pixels];
     let page = &mut all_page[0..pixels];
-    try_block(block, sheet, frame, page);
+    try_block(out, block, sheet, frame, page);
 }
 
-fn with_sheet(block: &[u8]) {
+fn with_sheet(out: &impl Print, block: &[u8]) {
     let mut all_sheet = [0u8; 65536];
     let size = length_at(block, 0);
     let sheet = &mut all_sheet[0..size];
-    with_frames(block, sheet, pixel_count(part(block, 12, size)));
+    with_frames(out, block, sheet, pixel_count(part(block, 12, size)));
 }
 
-fn try_blocks(input: &[u8]) {
+fn try_blocks(out: &impl Print, input: &[u8]) {
     let mut at = 0;
     while at < input.len() {
         let block = rest(input, at);
-        with_sheet(block);
+        with_sheet(out, block);
         at = after(at, block_size(block), input.len());
     }
 }
 
-fn main() {
+fn main(rt: HostRuntime) {
     let mut input = [0u8; 65536];
-    let n = io::read_full(STDIN_FILENO, &mut input);
-    try_blocks(&input[..n]);
+    let n = read_full(&mut rt.stdin(), &mut input);
+    try_blocks(&rt, &input[..n]);
 }

@@ -6,12 +6,11 @@
 ghost use Rattle.std.specs.Prelude.{◌≡◌, ◌-◌, ◌<◌, ◌≤◌, true, length, take, drop};
 ghost use Rattle.oracle_list.specs.Changes.{length_at, changed};
 
-use check::same;
 use entries::signed;
 use geometry::fill_row;
-use libc::STDIN_FILENO;
 use numbers::byte_or_zero;
 use programs::{write_line, write_number, write_word};
+use reading::read_full;
 use replay::{edit, edit_on_sheet, least, part, rest, same_batch, store, u16_of, u32_of};
 use station::{Batch, Box, Drawn, Glyph, Number, Position, Step};
 
@@ -276,21 +275,21 @@ fn all_same(same: Same) -> bool {
 fn same_start(a: &[u8], b: &[u8], size: usize) -> bool
     ensures { (result ≡ true → take size a.now ≡ take size b.now) × (take size a.now ≡ take size b.now → result ≡ true) }
 {
-    same(part(a, 0, size), part(b, 0, size))
+    part(a, 0, size) == part(b, 0, size)
 }
 
 // Whether two slices have the same bytes from an offset on.
 fn same_end(a: &[u8], b: &[u8], at: usize) -> bool
     ensures { (result ≡ true → drop at a.now ≡ drop at b.now) × (drop at a.now ≡ drop at b.now → result ≡ true) }
 {
-    same(rest(a, at), rest(b, at))
+    rest(a, at) == rest(b, at)
 }
 
 // Whether a slice has some bytes at an offset.
 fn has_at(a: &[u8], at: usize, bytes: &[u8]) -> bool
     ensures { (result ≡ true → take (length bytes.now) (drop at a.now) ≡ bytes.now) × (take (length bytes.now) (drop at a.now) ≡ bytes.now → result ≡ true) }
 {
-    same(part(a, at, bytes.len()), bytes)
+    part(a, at, bytes.len()) == bytes
 }
 
 // Whether the bytes after a call are those before it with a change.
@@ -343,44 +342,44 @@ fn compare_call(
 // ---- what is written and counted
 
 // Writes a word and a number.
-fn write_named(word: &[u8], n: u64) {
-    write_word(word);
-    write_number(n);
+fn write_named(out: &impl Print, word: &[u8], n: u64) {
+    write_word(out, word);
+    write_number(out, n);
 }
 
-fn write_unless(is_same: bool, word: &[u8]) {
+fn write_unless(out: &impl Print, is_same: bool, word: &[u8]) {
     if !is_same {
-        write_word(word);
+        write_word(out, word);
     }
 }
 
 // Writes what of an outcome differs.
-fn write_parts(same: Same) {
-    write_unless(same.reply, b" reply");
-    write_unless(same.sheet, b" sheet");
-    write_unless(same.frame, b" frame");
-    write_unless(same.output, b" output");
+fn write_parts(out: &impl Print, same: Same) {
+    write_unless(out, same.reply, b" reply");
+    write_unless(out, same.sheet, b" sheet");
+    write_unless(out, same.frame, b" frame");
+    write_unless(out, same.output, b" output");
 }
 
 // Writes which call of which case differs, and in what.
-fn write_difference(case: u64, number: u64, kind: u8, same: Same) {
-    write_named(b"difference: case", case);
-    write_named(b", call", number);
-    write_named(b", kind", kind as u64);
-    write_word(b":");
-    write_parts(same);
-    write_word(b"\n");
+fn write_difference(out: &impl Print, case: u64, number: u64, kind: u8, same: Same) {
+    write_named(out, b"difference: case", case);
+    write_named(out, b", call", number);
+    write_named(out, b", kind", kind as u64);
+    write_word(out, b":");
+    write_parts(out, same);
+    write_word(out, b"\n");
 }
 
 // Adds one to a count: of the answers to a kind of call, at 16 of refusals, at 17 of differences.
 fn count(counts: &mut [u64; 18], at: usize) {
     if at < 18 {
-        counts[at] = std::num::wrapping_add_u64(counts[at], 1);
+        counts[at] = counts[at].wrapping_add(1);
     }
 }
 
 // Counts a call, and writes what differs.
-fn count_call(counts: &mut [u64; 18], case: u64, number: u64, call: &[u8], same: Same) {
+fn count_call(out: &impl Print, counts: &mut [u64; 18], case: u64, number: u64, call: &[u8], same: Same) {
     let kind = byte_or_zero(call, 0);
     count(counts, kind as usize);
     if number_at(answer_of(call), 0) != 0 {
@@ -388,7 +387,7 @@ fn count_call(counts: &mut [u64; 18], case: u64, number: u64, call: &[u8], same:
     }
     if !all_same(same) {
         count(counts, 17);
-        write_difference(case, number, kind, same);
+        write_difference(out, case, number, kind, same);
     }
 }
 
@@ -396,6 +395,7 @@ fn count_call(counts: &mut [u64; 18], case: u64, number: u64, call: &[u8], same:
 
 // Makes a call, compares its outcome with the list and counts it.
 fn replay_call(
+    out: &impl Print,
     sheet: &mut [u8],
     frame: &mut [u8],
     output: &mut [u8],
@@ -408,11 +408,12 @@ fn replay_call(
     keep(old, &sheet[..], &frame[..], &output[..]);
     let reply = make_call(sheet, frame, output, call);
     let same = compare_call(reply, &sheet[..], &frame[..], &output[..], &old[..], call);
-    count_call(counts, case, number, call, same);
+    count_call(out, counts, case, number, call, same);
 }
 
 // Replays the calls of a case from `from` on; the offset after them, or 0 where the list ends in them.
 fn replay_calls(
+    out: &impl Print,
     sheet: &mut [u8],
     frame: &mut [u8],
     output: &mut [u8],
@@ -435,6 +436,7 @@ fn replay_calls(
         }
         number += 1;
         replay_call(
+            out,
             sheet,
             frame,
             output,
@@ -472,6 +474,7 @@ fn output_at(case: &[u8]) -> usize
 
 // Replays a case on slices that are lent.
 fn on_slices(
+    out: &impl Print,
     sheet: &mut [u8],
     frame: &mut [u8],
     output: &mut [u8],
@@ -487,11 +490,12 @@ fn on_slices(
 {
     let end = length_at(case, output_at(case) + 2);
     start(sheet, frame, output, case);
-    replay_calls(sheet, frame, output, old, counts, list, calls, end, number)
+    replay_calls(out, sheet, frame, output, old, counts, list, calls, end, number)
 }
 
 // Replays the calls of a case on a sheet and a frame that are lent, and a new output.
 fn with_output(
+    out: &impl Print,
     list: &[u8],
     case: &[u8],
     calls: usize,
@@ -508,12 +512,14 @@ fn with_output(
     let mut old = [0u8; 196608];
     let output = &mut all_output[0..o];
     on_slices(
+        out,
         sheet, frame, output, &mut old, counts, list, case, calls, number,
     )
 }
 
 // Replays the calls of a case on a sheet that is lent, and a new frame and output.
 fn with_frame(
+    out: &impl Print,
     list: &[u8],
     case: &[u8],
     calls: usize,
@@ -528,11 +534,12 @@ fn with_frame(
 {
     let mut all_frame = [0u8; 65536];
     let frame = &mut all_frame[0..f];
-    with_output(list, case, calls, counts, number, sheet, frame, o)
+    with_output(out, list, case, calls, counts, number, sheet, frame, o)
 }
 
 // Replays the calls of a case on new slices of the given lengths.
 fn with_slices(
+    out: &impl Print,
     list: &[u8],
     case: &[u8],
     calls: usize,
@@ -547,11 +554,11 @@ fn with_slices(
 {
     let mut all_sheet = [0u8; 65536];
     let sheet = &mut all_sheet[0..s];
-    with_frame(list, case, calls, counts, number, sheet, f, o)
+    with_frame(out, list, case, calls, counts, number, sheet, f, o)
 }
 
 // Replays the case at an offset; the offset after it, or 0 where the list ends in it.
-fn replay_case(list: &[u8], at: usize, counts: &mut [u64; 18], number: u64) -> usize
+fn replay_case(out: &impl Print, list: &[u8], at: usize, counts: &mut [u64; 18], number: u64) -> usize
     requires { at ≤ length list.now }
     ensures { result ≤ length list.now }
 {
@@ -564,18 +571,18 @@ fn replay_case(list: &[u8], at: usize, counts: &mut [u64; 18], number: u64) -> u
     let s = length_at(case, 0);
     let f = length_at(case, frame_at(case));
     let o = length_at(case, end);
-    with_slices(list, case, calls, counts, number, s, f, o)
+    with_slices(out, list, case, calls, counts, number, s, f, o)
 }
 
 // Replays the cases, and gives their number.
-fn replay_cases(list: &[u8], counts: &mut [u64; 18]) -> u64 {
+fn replay_cases(out: &impl Print, list: &[u8], counts: &mut [u64; 18]) -> u64 {
     let mut number = 0;
     let mut at = least(12, list.len());
     while at < list.len() {
         number += 1;
-        let next = replay_case(list, at, counts, number);
+        let next = replay_case(out, list, at, counts, number);
         if next <= at {
-            write_line(b"cut in case", number);
+            write_line(out, b"cut in case", number);
             return number;
         }
         at = next;
@@ -584,11 +591,11 @@ fn replay_cases(list: &[u8], counts: &mut [u64; 18]) -> u64 {
 }
 
 // Writes how often each kind of call was answered.
-fn write_kinds(counts: [u64; 18]) {
+fn write_kinds(out: &impl Print, counts: [u64; 18]) {
     let mut kind: usize = 0;
     while kind < 16 {
-        write_named(b"kind", kind as u64);
-        write_line(b":", counts[kind]);
+        write_named(out, b"kind", kind as u64);
+        write_line(out, b":", counts[kind]);
         kind += 1;
     }
 }
@@ -602,29 +609,29 @@ fn is_list(list: &[u8]) -> bool {
 }
 
 // Writes what was met.
-fn write_counts(cases: u64, counts: [u64; 18]) {
-    write_line(b"cases", cases);
-    write_kinds(counts);
-    write_line(b"refused", counts[16]);
-    write_line(b"differences", counts[17]);
+fn write_counts(out: &impl Print, cases: u64, counts: [u64; 18]) {
+    write_line(out, b"cases", cases);
+    write_kinds(out, counts);
+    write_line(out, b"refused", counts[16]);
+    write_line(out, b"differences", counts[17]);
 }
 
 // Replays a list, and writes what was met.
-fn replay_list(list: &[u8]) {
+fn replay_list(out: &impl Print, list: &[u8]) {
     if !is_list(list) {
-        write_word(b"no list\n");
+        write_word(out, b"no list\n");
         return;
     }
     let mut counts = [0u64; 18];
-    let cases = replay_cases(list, &mut counts);
-    write_counts(cases, counts);
+    let cases = replay_cases(out, list, &mut counts);
+    write_counts(out, cases, counts);
     if number_at(list, 8) as u64 != cases {
-        write_word(b"cut\n");
+        write_word(out, b"cut\n");
     }
 }
 
-fn main() {
+fn main(rt: HostRuntime) {
     let mut list = [0u8; 294912];
-    let n = io::read_full(STDIN_FILENO, &mut list);
-    replay_list(&list[..n]);
+    let n = read_full(&mut rt.stdin(), &mut list);
+    replay_list(&rt, &list[..n]);
 }

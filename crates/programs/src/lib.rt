@@ -6,35 +6,33 @@ ghost use Rattle.characters.specs.Refusal.{unless_refused};
 ghost use Rattle.sheet.specs.Check.{check};
 ghost use Rattle.drawing.specs.Drawing.{pixel_count};
 
-use libc::{STDERR_FILENO, STDOUT_FILENO};
 use sheet::fields::{frame_height, frame_width};
 use station::station_check;
 
-// Writes a word to standard output.
-pub fn write_word(text: &[u8]) {
-    io::write_all(STDOUT_FILENO, text);
+// Writes a word; a write that fails is let pass.
+pub fn write_word(out: &impl Print, text: &[u8]) {
+    let _ = out.write_all(text);
 }
 
 // Writes a number in decimal after a blank.
-pub fn write_number(n: u64) {
-    write_word(b" ");
-    io::print_decimal(STDOUT_FILENO, n);
+pub fn write_number(out: &impl Print, n: u64) {
+    let _ = print!(out; " {n}");
 }
 
 // Writes a word and a number as a line.
-pub fn write_line(text: &[u8], n: u64) {
-    write_word(text);
-    write_number(n);
-    write_word(b"\n");
+pub fn write_line(out: &impl Print, text: &[u8], n: u64) {
+    write_word(out, text);
+    write_number(out, n);
+    write_word(out, b"\n");
 }
 
 // Writes one of two words.
-pub fn write_either(first: bool, yes: &[u8], no: &[u8]) {
+pub fn write_either(out: &impl Print, first: bool, yes: &[u8], no: &[u8]) {
     if first {
-        write_word(yes);
+        write_word(out, yes);
         return;
     }
-    write_word(no);
+    write_word(out, no);
 }
 
 // A number without its sign.
@@ -49,38 +47,36 @@ fn magnitude(z: i32) -> u64
 }
 
 // Writes a signed number in decimal after a blank.
-pub fn write_signed(z: i32) {
-    write_word(b" ");
+pub fn write_signed(out: &impl Print, z: i32) {
+    write_word(out, b" ");
     if z < 0 {
-        write_word(b"-");
+        write_word(out, b"-");
     }
-    io::print_decimal(STDOUT_FILENO, magnitude(z));
+    let _ = out.print(magnitude(z));
 }
 
-fn write_refused_to(file: i32, code: u32) {
-    io::write_all(file, b"refused ");
-    io::print_decimal(file, code as u64);
-    io::write_all(file, b"\n");
+fn write_refused_to(out: &impl Print, code: u32) {
+    let _ = println!(out; "refused {code}");
 }
 
 // Writes `refused`, a refusal's number and a feed to standard output, and the same to standard error, by which a script can tell.
-pub fn write_refused(code: u32) {
-    write_refused_to(STDOUT_FILENO, code);
-    write_refused_to(STDERR_FILENO, code);
+pub fn write_refused(rt: &HostRuntime, code: u32) {
+    write_refused_to(rt, code);
+    write_refused_to(&rt.stderr(), code);
 }
 
 // Writes a line to standard output, and the same to standard error.
-pub fn write_fault(line: &[u8]) {
-    write_word(line);
-    io::write_all(STDERR_FILENO, line);
+pub fn write_fault(rt: &HostRuntime, line: &[u8]) {
+    write_word(rt, line);
+    write_word(&rt.stderr(), line);
 }
 
 // Writes the first k bytes to standard output; where the write fails or ends early, the fault is said on standard error.
-pub fn write_part(bytes: &[u8], k: usize, fault: &[u8]) {
+pub fn write_part(rt: &HostRuntime, bytes: &[u8], k: usize, fault: &[u8]) {
     if k <= bytes.len() {
         let part = &bytes[0..k];
-        if !io::write_all(STDOUT_FILENO, part) {
-            io::write_all(STDERR_FILENO, fault);
+        if rt.write_all(part).is_err() {
+            write_word(&rt.stderr(), fault);
         }
     }
 }

@@ -2,32 +2,32 @@
 // `too long` and a feed. Where no font was written, standard error says so.
 #![tactic(auto)]
 
-use libc::STDIN_FILENO;
 use programs::{write_fault, write_part, write_refused};
+use reading::read_full;
 use station::station_read_bdf;
 
 // Writes the font of a file, or the refusal.
-fn write_font_of(file: &[u8], font: &mut [u8]) {
+fn write_font_of(rt: &HostRuntime, file: &[u8], font: &mut [u8]) {
     let reply = station_read_bdf(file, font);
     if reply.code != 0 {
-        write_refused(reply.code);
+        write_refused(rt, reply.code);
         return;
     }
-    write_part(&font[..], reply.value as usize, b"font not written\n");
+    write_part(rt, &font[..], reply.value as usize, b"font not written\n");
 }
 
 // Reads a file from standard input into `file`, which has a byte more than the longest, and writes its font by way of `font`.
-fn run(file: &mut [u8], font: &mut [u8]) {
-    let n = io::read_full(STDIN_FILENO, file);
+fn run(rt: &HostRuntime, file: &mut [u8], font: &mut [u8]) {
+    let n = read_full(&mut rt.stdin(), file);
     if n == file.len() {
-        write_fault(b"too long\n");
+        write_fault(rt, b"too long\n");
         return;
     }
-    write_font_of(&file[..n], font);
+    write_font_of(rt, &file[..n], font);
 }
 
-fn main() {
+fn main(rt: HostRuntime) {
     let mut file = [0u8; 4194305];
     let mut font = [0u8; 1048576];
-    run(&mut file, &mut font);
+    run(&rt, &mut file, &mut font);
 }

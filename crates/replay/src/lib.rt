@@ -87,7 +87,7 @@ pub fn store(to: &mut [u8], at: usize, bytes: &[u8]) -> bool
         return false;
     }
     let end = at + bytes.len();
-    bytes::copy(bytes, &mut to[at..end]);
+    to[at..end].copy_from_slice(bytes);
     true
 }
 

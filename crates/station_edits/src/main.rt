@@ -6,57 +6,57 @@
 
 ghost use Rattle.std.specs.Prelude.{◌≤◌};
 
-use libc::{STDERR_FILENO, STDIN_FILENO, STDOUT_FILENO};
 use programs::{pixel_count, write_fault, write_number, write_part, write_signed, write_word};
+use reading::read_full;
 use sheet::fields::u32_at;
 use station::{Batch, station_edit_list};
 
 // Writes a reply's numbers as a line.
-fn write_reply(reply: Batch) {
-    io::print_decimal(STDOUT_FILENO, reply.code as u64);
-    write_number(reply.made as u64);
-    write_signed(reply.left);
-    write_signed(reply.top);
-    write_number(reply.width as u64);
-    write_number(reply.height as u64);
-    write_word(b"\n");
+fn write_reply(out: &impl Print, reply: Batch) {
+    let _ = out.print(reply.code);
+    write_number(out, reply.made as u64);
+    write_signed(out, reply.left);
+    write_signed(out, reply.top);
+    write_number(out, reply.width as u64);
+    write_number(out, reply.height as u64);
+    write_word(out, b"\n");
 }
 
 // Makes a list and writes what came of it.
-fn make_list(sheet: &mut [u8], frame: &mut [u8], list: &[u8]) {
+fn make_list(rt: &HostRuntime, sheet: &mut [u8], frame: &mut [u8], list: &[u8]) {
     let reply = station_edit_list(sheet, frame, list);
-    write_reply(reply);
+    write_reply(rt, reply);
     if reply.code != 0 {
-        io::write_all(STDERR_FILENO, b"list refused\n");
+        write_word(&rt.stderr(), b"list refused\n");
         return;
     }
-    write_part(&sheet[..], sheet.len(), b"sheet not written\n");
+    write_part(rt, &sheet[..], sheet.len(), b"sheet not written\n");
 }
 
 // Reads a sheet that fills `sheet`, and a list into `list`, which has a byte more than the longest; makes the list.
-fn run(sheet: &mut [u8], list: &mut [u8]) {
-    let read = io::read_full(STDIN_FILENO, sheet);
+fn run(rt: &HostRuntime, sheet: &mut [u8], list: &mut [u8]) {
+    let read = read_full(&mut rt.stdin(), sheet);
     if read != sheet.len() {
-        write_fault(b"too short\n");
+        write_fault(rt, b"too short\n");
         return;
     }
-    let n = io::read_full(STDIN_FILENO, list);
+    let n = read_full(&mut rt.stdin(), list);
     if n == list.len() {
-        write_fault(b"too long\n");
+        write_fault(rt, b"too long\n");
         return;
     }
     let pixels = pixel_count(&sheet[..]);
     let mut frame = [0u8; 65536];
     let canvas = &mut frame[0..pixels];
-    make_list(sheet, canvas, &list[..n]);
+    make_list(rt, sheet, canvas, &list[..n]);
 }
 
 // The sheet's length that standard input begins with; of a sheet of more than 65,536 bytes one byte past that limit, and so refused.
-fn sheet_length() -> usize
+fn sheet_length(rt: &HostRuntime) -> usize
     ensures { result ≤ 65537 }
 {
     let mut head = [0u8; 4];
-    io::read_full(STDIN_FILENO, &mut head);
+    read_full(&mut rt.stdin(), &mut head);
     let length = u32_at(&head, 0);
     if length > 65536 {
         return 65537;
@@ -64,10 +64,10 @@ fn sheet_length() -> usize
     length
 }
 
-fn main() {
+fn main(rt: HostRuntime) {
     let mut file = [0u8; 65537];
     let mut list = [0u8; 65537];
-    let length = sheet_length();
+    let length = sheet_length(&rt);
     let sheet = &mut file[0..length];
-    run(sheet, &mut list);
+    run(&rt, sheet, &mut list);
 }

@@ -3,14 +3,14 @@
 // refused changed its output, its line ends with `changed`.
 #![tactic(auto)]
 
-use libc::{STDIN_FILENO, STDOUT_FILENO};
 use programs::{write_either, write_line, write_number, write_word};
+use reading::read_full;
 use replay::{part, rest, store, u32_of};
 use station::{Number, station_read_bdf};
 
-fn write_head(number: usize, word: &[u8]) {
-    io::print_decimal(STDOUT_FILENO, number as u64);
-    write_word(word);
+fn write_head(out: &impl Print, number: usize, word: &[u8]) {
+    let _ = print!(out; "{number}");
+    write_word(out, word);
 }
 
 fn hash_with(hash: u64, byte: u8) -> u64 {
@@ -35,13 +35,13 @@ fn read_filled(file: &[u8], filled: &[u8], output: &mut [u8]) -> Number {
 }
 
 // Writes a code, and whether the output is still as it was filled.
-fn write_code(code: u32, filled: &[u8], output: &[u8]) {
-    write_number(code as u64);
-    write_either(check::same(output, filled), b"\n", b" changed\n");
+fn write_code(out: &impl Print, code: u32, filled: &[u8], output: &[u8]) {
+    write_number(out, code as u64);
+    write_either(out, output == filled, b"\n", b" changed\n");
 }
 
 // Reads a file with an output one byte shorter than its font of `size` bytes.
-fn show_short(number: usize, file: &[u8], filled: &[u8], output: &mut [u8], size: usize) {
+fn show_short(out: &impl Print, number: usize, file: &[u8], filled: &[u8], output: &mut [u8], size: usize) {
     if size == 0 {
         return;
     }
@@ -50,43 +50,43 @@ fn show_short(number: usize, file: &[u8], filled: &[u8], output: &mut [u8], size
         let before = part(filled, 0, end);
         let short = &mut output[0..end];
         let reply = read_filled(file, before, short);
-        write_head(number, b" short");
-        write_code(reply.code, before, &short[..]);
+        write_head(out, number, b" short");
+        write_code(out, reply.code, before, &short[..]);
     }
 }
 
-fn show_file(number: usize, file: &[u8], filled: &[u8], output: &mut [u8]) {
+fn show_file(out: &impl Print, number: usize, file: &[u8], filled: &[u8], output: &mut [u8]) {
     let reply = read_filled(file, filled, output);
     if reply.code != 0 {
-        write_head(number, b" refused");
-        write_code(reply.code, filled, &output[..]);
+        write_head(out, number, b" refused");
+        write_code(out, reply.code, filled, &output[..]);
         return;
     }
     let size = reply.value as usize;
-    write_head(number, b" font");
-    write_number(size as u64);
-    write_line(b"", hash(part(&output[..], 0, size)));
-    show_short(number, file, filled, output, size);
+    write_head(out, number, b" font");
+    write_number(out, size as u64);
+    write_line(out, b"", hash(part(&output[..], 0, size)));
+    show_short(out, number, file, filled, output, size);
 }
 
 // The records one by one: 4 bytes for a length, then a file of that length.
-fn show_files(list: &[u8], filled: &[u8], output: &mut [u8]) {
+fn show_files(out: &impl Print, list: &[u8], filled: &[u8], output: &mut [u8]) {
     let mut number = 0;
     let mut at = 0;
     while at < list.len() {
         let size = u32_of(rest(list, at)) as usize;
         let from = at + 4;
-        show_file(number, part(list, from, size), filled, output);
+        show_file(out, number, part(list, from, size), filled, output);
         number += 1;
         at = from + size;
     }
 }
 
 // The list has at most 262,144 bytes.
-fn main() {
+fn main(rt: HostRuntime) {
     let mut list = [0u8; 262145];
-    let n = io::read_full(STDIN_FILENO, &mut list);
+    let n = read_full(&mut rt.stdin(), &mut list);
     let filled = [0xA5u8; 65536];
     let mut output = [0u8; 65536];
-    show_files(&list[..n], &filled, &mut output);
+    show_files(&rt, &list[..n], &filled, &mut output);
 }
