@@ -14,7 +14,7 @@ use lib.ListN.{length}
 use Rattle.geometry.specs.declared.Point.{Point}
 use Rattle.geometry.specs.declared.Rectangle.{Rectangle}
 use Rattle.geometry.specs.Layer.{signed}
-use Rattle.geometry.specs.Rectangle.{rectangle, joins}
+use Rattle.geometry.specs.Rectangle.{joins}
 use Rattle.characters.specs.Utf8.{chars}
 use Rattle.characters.specs.Lines.{before, lines}
 use Rattle.line.specs.declared.DecorationDimensions.{DecorationDimensions}

@@ -14,7 +14,7 @@ use mir.Syntax.{w16, w32}
 use mir.Val.{Fits}
 use Rattle.geometry.specs.declared.Rectangle.{Rectangle}
 use Rattle.geometry.specs.Rectangle.{rectangle, is_empty, join, joins, intersection}
-use Rattle.geometry.proofs.Rectangles.{In, Within, join-within, joins-within, apart_within}
+use Rattle.geometry.proofs.Rectangles.{Within, join-within, joins-within, apart_within}
 use Rattle.characters.specs.Utf8.{chars}
 use Rattle.characters.specs.Lines.{before, lines, without_return}
 use Rattle.characters.proofs.Folds.{length-chars}

@@ -11,13 +11,12 @@ use Rattle.characters.specs.Utf8.{chars, well_formed}
 use Rattle.characters.specs.Lines.{OneLine}
 use Rattle.characters.proofs.Feeds.{one_line, nothing_dropped, one_line_append}
 use Rattle.characters.proofs.Parts.{chars-append}
-use Rattle.line.specs.declared.MonoFont.{MonoFont}
 use Rattle.line.specs.Line.{Font, spacing, top_edge, unlisted, string, advance}
 use Rattle.line.proofs.Unlisted.{unlisted-append}
 use Rattle.line.proofs.Joining.{advances_joined, string_joined}
 use Rattle.text.specs.declared.Alignment.{Alignment}
 use Rattle.text.specs.declared.Alignment.TheVariants.{Left}
-use Rattle.text.specs.Text.{Text, PlacedLine, aligned_start, place_line, place_lines, placed_lines, line_layer, lines_layer, layer, line_next, last_next, next, line_replaced, lines_replaced, replaced}
+use Rattle.text.specs.Text.{Text, aligned_start, place_line, place_lines, placed_lines, line_layer, lines_layer, layer, line_next, last_next, next, line_replaced, lines_replaced, replaced}
 
 -- a text's styles with other bytes, at another position
 abbrev pub run_at : Text → List ℕ → Point → Text

@@ -16,7 +16,7 @@ module _ (stored new text : Bor (List ℕ)) where
   named-bytes Stored e = rw e
   named-bytes New e = rw e
 
-  named-place : (source : Source) → text ≡ either source stored new → either source stored.ptr new.ptr ≡ text.ptr
+  named-place : (source : Source) → text ≡ either source stored new → either source stored.ref_ptr new.ref_ptr ≡ text.ref_ptr
   named-place Stored e = rw e
   named-place New e = rw e
 
@@ -31,5 +31,5 @@ module _ (stored new text : Bor (List ℕ)) where
       pub named_line : take (end - from) (drop from text.now) ≡ line_from (either source stored.now new.now) from
       named_line = rw (named-bytes source e) (line_part text.now from end d)
 
-    pub named_lies : (from : ℕ) → LiesAt (either source stored.ptr new.ptr) from (text.ptr.0, from + text.ptr.1)
+    pub named_lies : (from : ℕ) → LiesAt (either source stored.ref_ptr new.ref_ptr) from (text.ref_ptr.0, from + text.ref_ptr.1)
     named_lies from = rw (named-place source e) (record { block = refl; offset = refl })

@@ -1,6 +1,5 @@
 -- `draw` meets its contract: at each line the lines before it are drawn, and those from it on make up the rest, which is nothing below the clip.
 -- Assumes nothing.
-use Prim.Native.Nat.{◌-◌}
 use Rattle.characters.proofs.Feeds.{end_reach, line_part, line_less}
 use Rattle.text.proofs.Places.{line_limits, at_fits}
 use Rattle.text.proofs.Drawing.{lines_start, left_painted, left_position, left_count, lines_step, draw_last, count_last, next_last}

@@ -13,4 +13,4 @@ returns-in-Pixels c = search rules
 
 pub returns-in-Percent : goal.returns-in-Percent
 unfolding line_height
-returns-in-Percent c = rw c.height-in-Percent-1.given.1
+returns-in-Percent c = rw c.in-Percent.is

@@ -1,5 +1,4 @@
 -- `lines_box` meets its contract: at each line the boxes of the lines before it are joined, and those from it on make up the rest. Assumes nothing.
-use Prim.Native.Nat.{◌-◌}
 use Rattle.text.proofs.Sources.{named_length}
 use Rattle.text.proofs.Places.{line_limits, at_fits}
 use Rattle.text.proofs.LineBoxes.{boxes_start, boxes_last, boxes_end, boxes_step, box_ends}

@@ -1,0 +1,11 @@
+-- The loop keeps that the places passed hold the bytes, or 0 past their end. Assumes nothing.
+use Prim.Native.Nat.{ℕ, ◌≤◌, ◌<◌, ◌-◌}
+use mathlib.Core.Path.{◌≡◌}
+use lib.ListN.{length, get_or}
+use Rattle.edits.proofs.store_padded.Given as goal
+
+abbrev pub invariant-loop-i : goal.invariant-loop-i
+invariant-loop-i l = (length l.to ≡ length l.initial.to) × (l.i ≤ length l.initial.to) × ((k : ℕ) → k < l.i → get_or l.to k 0 ≡ get_or l.from k 0)
+
+abbrev pub decreases-loop-i : goal.decreases-loop-i
+decreases-loop-i l = length l.initial.to - l.i
