@@ -12,7 +12,7 @@ use Rattle.sheet.proofs.Bytes.{same-le16_at, same-le32_at, same-part}
 use Rattle.sheet.proofs.Stores.{length-put_place, length-put_style, put_text_other, put_place_other, put_style_other, put_text-length, put_text_text, put_place_x, put_place_y, coordinate-biased, put_style_at}
 use Rattle.sheet.proofs.Allowed.{text_allowed, place_allowed, style_allowed}
 use Rattle.sheet.proofs.Unchanged.{same-font_count}
-use Rattle.records.specs.Records.{mono_text_style, style_of, text_style, item_of, item}
+use Rattle.records.specs.Records.{mono_text_style, style_of, item_of, item}
 use Rattle.records.proofs.Unchanged.{same-mono_text_style, same-text_style}
 
 -- ---- the item after each edit
