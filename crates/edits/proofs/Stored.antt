@@ -16,7 +16,7 @@ use Rattle.sheet.specs.Fields.{le16_at, le32_at, le16, item_at}
 use Rattle.sheet.specs.Requires.{EditAllowed, TextFits, StyleFits}
 use Rattle.sheet.specs.Edits.{new_text, new_place, new_style, in_range, biased, put_text, put_place, put_style}
 use Rattle.sheet.proofs.Bytes.{length_padded, padded_at}
-use Rattle.sheet.proofs.Allowed.{text_allowed, place_allowed, style_allowed, listed}
+use Rattle.sheet.proofs.Allowed.{text_allowed, place_allowed, style_allowed}
 use Rattle.edits.proofs.Signed.{read}
 
 pub two_bytes : (s : List ℕ) (i n : ℕ) → set (set s i (n % 256)) (i + 1) (n / 256 % 256) ≡ sets s i (le16 n)
