@@ -9,5 +9,8 @@ pub write_bytes-requires : goal.write_bytes-requires
 write_bytes-requires c = search greys_fit
 
 pub returns : goal.returns
-returns c = let s = c.before.before.before.before.before.before.before.before.before.before in
-    page-written _ _ _ _ _ _ _ _ s.requires c.write_header-greys.ensures c.write_bytes.ensures
+returns c =
+    let header = c.write_header-greys.ensures in
+    let greys = c.write_bytes.ensures in
+    let s = page-written _ _ _ _ _ _ _ _ c.requires (header.output_after, header.value) (greys.output_after, greys.value) in
+    record { output_after = s.0; value = s.1 }
