@@ -241,7 +241,13 @@ struct Made {
 }
 
 // Makes an edit both ways and writes its code.
-fn make_single(out: &impl Print, patched: &mut [u8], frame: &mut [u8], fresh: &mut [u8], bytes: &[u8]) -> Made {
+fn make_single(
+    out: &impl Print,
+    patched: &mut [u8],
+    frame: &mut [u8],
+    fresh: &mut [u8],
+    bytes: &[u8],
+) -> Made {
     let reply = make_with_frame(patched, frame, bytes);
     let other = make_on_sheet(fresh, bytes);
     write_number(out, reply.code as u64);
@@ -252,7 +258,13 @@ fn make_single(out: &impl Print, patched: &mut [u8], frame: &mut [u8], fresh: &m
 }
 
 // Makes a batch both ways and writes its code and how many edits were made.
-fn make_batch(out: &impl Print, patched: &mut [u8], frame: &mut [u8], fresh: &mut [u8], list: &[u8]) -> Made {
+fn make_batch(
+    out: &impl Print,
+    patched: &mut [u8],
+    frame: &mut [u8],
+    fresh: &mut [u8],
+    list: &[u8],
+) -> Made {
     let reply = station::station_edit_list(patched, frame, list);
     let other = make_counted(fresh, list, reply);
     write_number(out, reply.code as u64);
@@ -267,7 +279,13 @@ fn is_batch(bytes: &[u8]) -> bool {
     byte_or_zero(bytes, 0) == 3
 }
 
-fn make_either(out: &impl Print, patched: &mut [u8], frame: &mut [u8], fresh: &mut [u8], bytes: &[u8]) -> Made {
+fn make_either(
+    out: &impl Print,
+    patched: &mut [u8],
+    frame: &mut [u8],
+    fresh: &mut [u8],
+    bytes: &[u8],
+) -> Made {
     if is_batch(bytes) {
         return make_batch(out, patched, frame, fresh, data_of(bytes));
     }
@@ -387,7 +405,14 @@ fn compare(
 }
 
 // Makes the list on two sheets that are lent, and two frames.
-fn with_frames(out: &impl Print, sheet: &[u8], list: &[u8], patched: &mut [u8], fresh: &mut [u8], area: usize)
+fn with_frames(
+    out: &impl Print,
+    sheet: &[u8],
+    list: &[u8],
+    patched: &mut [u8],
+    fresh: &mut [u8],
+    area: usize,
+)
     requires { area ≤ 65536 }
 {
     let mut all_frame = [0u8; 65536];

@@ -257,7 +257,7 @@ fn try_cut(
     fill_strange(frame, 11);
     let parts = draw_parts(sheet, frame, case, cut);
     let is_refused = (parts.code != 0) | (whole.code != 0);
-    let is_same = same_drawn(parts, whole) & (frame[..] == *page);
+    let is_same = same_drawn(parts, whole) & (frame[..] == page[..]);
     with_comparison(tally, is_refused, is_same)
 }
 
@@ -296,7 +296,14 @@ fn try_setting(
 }
 
 // Tries a case in all settings, and writes what came of it.
-fn try_case(out: &impl Print, sheet: &mut [u8], frame: &mut [u8], page: &mut [u8], settings: &[u8], case: &[u8]) {
+fn try_case(
+    out: &impl Print,
+    sheet: &mut [u8],
+    frame: &mut [u8],
+    page: &mut [u8],
+    settings: &[u8],
+    case: &[u8],
+) {
     let mut tally = Tally {
         same: 0,
         different: 0,
@@ -313,7 +320,14 @@ fn try_case(out: &impl Print, sheet: &mut [u8], frame: &mut [u8], page: &mut [u8
 }
 
 // Tries the cases of a list.
-fn try_cases(out: &impl Print, sheet: &mut [u8], frame: &mut [u8], page: &mut [u8], settings: &[u8], cases: &[u8]) {
+fn try_cases(
+    out: &impl Print,
+    sheet: &mut [u8],
+    frame: &mut [u8],
+    page: &mut [u8],
+    settings: &[u8],
+    cases: &[u8],
+) {
     let mut at = 0;
     while at < cases.len() {
         let case = rest(cases, at);

@@ -379,7 +379,14 @@ fn count(counts: &mut [u64; 18], at: usize) {
 }
 
 // Counts a call, and writes what differs.
-fn count_call(out: &impl Print, counts: &mut [u64; 18], case: u64, number: u64, call: &[u8], same: Same) {
+fn count_call(
+    out: &impl Print,
+    counts: &mut [u64; 18],
+    case: u64,
+    number: u64,
+    call: &[u8],
+    same: Same,
+) {
     let kind = byte_or_zero(call, 0);
     count(counts, kind as usize);
     if number_at(answer_of(call), 0) != 0 {
@@ -490,7 +497,9 @@ fn on_slices(
 {
     let end = length_at(case, output_at(case) + 2);
     start(sheet, frame, output, case);
-    replay_calls(out, sheet, frame, output, old, counts, list, calls, end, number)
+    replay_calls(
+        out, sheet, frame, output, old, counts, list, calls, end, number,
+    )
 }
 
 // Replays the calls of a case on a sheet and a frame that are lent, and a new output.
@@ -512,8 +521,7 @@ fn with_output(
     let mut old = [0u8; 196608];
     let output = &mut all_output[0..o];
     on_slices(
-        out,
-        sheet, frame, output, &mut old, counts, list, case, calls, number,
+        out, sheet, frame, output, &mut old, counts, list, case, calls, number,
     )
 }
 
@@ -558,7 +566,13 @@ fn with_slices(
 }
 
 // Replays the case at an offset; the offset after it, or 0 where the list ends in it.
-fn replay_case(out: &impl Print, list: &[u8], at: usize, counts: &mut [u64; 18], number: u64) -> usize
+fn replay_case(
+    out: &impl Print,
+    list: &[u8],
+    at: usize,
+    counts: &mut [u64; 18],
+    number: u64,
+) -> usize
     requires { at ≤ length list.now }
     ensures { result ≤ length list.now }
 {

@@ -41,7 +41,14 @@ fn write_code(out: &impl Print, code: u32, filled: &[u8], output: &[u8]) {
 }
 
 // Reads a file with an output one byte shorter than its font of `size` bytes.
-fn show_short(out: &impl Print, number: usize, file: &[u8], filled: &[u8], output: &mut [u8], size: usize) {
+fn show_short(
+    out: &impl Print,
+    number: usize,
+    file: &[u8],
+    filled: &[u8],
+    output: &mut [u8],
+    size: usize,
+) {
     if size == 0 {
         return;
     }
