@@ -3,24 +3,22 @@ use Prim.Native.Nat.{ℕ, zero, suc, ◌+◌, ◌-◌, ◌*◌, ◌/◌, ◌≤�
 use native.Mathlib.Nat.{mul-le-mul_right}
 use native.Mathlib.Omega.{arith}
 use mathlib.Core.Path.{◌≡◌, refl, sym, ap, ◌∙◌}
-use mathlib.Core.Bool.{Bool, true, false, true≢false}
-use mathlib.Core.List.{List, [], ◌∷◌, ◌++◌, append-nil}
+use mathlib.Core.Bool.{true, false, true≢false}
+use mathlib.Core.List.{List, [], ◌++◌, append-nil}
 use lib.ListN.{length, take, drop, replicate, length-drop, length-append, length-replicate, drop_of_length-le}
 use lib.Seq.{length-take-le, take_at, drop_at}
-use lib.Dec.{leb}
 use mir.Syntax.{w32, w64}
 use mir.Val.{Fits}
 use borrow.Author.Tests.{le-leb, lt-leb}
 use borrow.Rule.Slice.PartMut.{put_mid, post_of}
-use Rattle.characters.specs.Refusal.{need, or_else, unless_refused}
-use Rattle.bdf.specs.declared.reader.BoundingBox.{BoundingBox}
+use Rattle.characters.specs.Refusal.{or_else, unless_refused}
 use Rattle.bdf.specs.declared.reader.Reader.{Reader}
 use Rattle.bdf.specs.declared.file.Measured.{Measured}
 use Rattle.bdf.specs.declared.file.Measured.TheVariants as measure
 use Rattle.bdf.specs.declared.Outcome.{Outcome}
 use Rattle.bdf.specs.declared.Outcome.TheVariants.{Refused, Written}
 use Rattle.bdf.specs.Reader.{start, first_refusal, last_reader, file_lines}
-use Rattle.bdf.specs.Font.{atlas_size, stride, font_of, atlas_of, mapping_of, record_of, font_bytes, refusal, read_code, outcome_of, outcome, written}
+use Rattle.bdf.specs.Font.{atlas_size, font_of, atlas_of, mapping_of, record_of, font_bytes, refusal, read_code, outcome_of, outcome, written}
 use Rattle.bdf.specs.Writing.{GoodCell, put_lines}
 use Rattle.bdf.specs.Within.{Within}
 use Rattle.bdf.specs.Walk.{lines_from, measured_of, measured, put_lines_if, Room, IsMeasured}

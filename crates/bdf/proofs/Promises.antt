@@ -1,9 +1,9 @@
 -- What a file's font promises to a sheet that takes it, for every file: its mapping lists the encodings in their order, its record and its
 -- mapping pass a sheet's tests, and its atlas shows each glyph's bitmap where its BBX places it. Assumes nothing.
-use Prim.Native.Nat.{ℕ, zero, suc, ◌+◌, ◌*◌, ◌≤◌, ◌<◌}
+use Prim.Native.Nat.{ℕ, zero, suc, ◌+◌, ◌≤◌, ◌<◌}
 use native.Mathlib.Omega.{arith}
-use mathlib.Core.Path.{◌≡◌, refl, sym, ap, ◌∙◌}
-use mathlib.Core.Bool.{Bool, true}
+use mathlib.Core.Path.{◌≡◌, refl, ap}
+use mathlib.Core.Bool.{true}
 use mathlib.Core.List.{List, [], ◌∷◌}
 use lib.ListN.{length, get_or}
 use Rattle.characters.specs.Utf8.{well_formed}
@@ -11,7 +11,7 @@ use Rattle.mapping.specs.Mapping as mapping
 use Rattle.atlas.specs.Atlas.{row_bytes, is_on, glyph_column, glyph_row, is_drawn}
 use Rattle.limits.specs.Limits.{font_limits}
 use Rattle.bdf.specs.Reader.{start, last_reader, file_lines}
-use Rattle.bdf.specs.Font.{Glyph, BdfFont, font_of, is_ink, glyph_at, glyph_count, atlas_size, atlas_of, encodings, mapping_of, record_of, font_bytes}
+use Rattle.bdf.specs.Font.{Glyph, BdfFont, font_of, is_ink, glyph_at, glyph_count, atlas_of, encodings, mapping_of, record_of}
 use Rattle.bdf.proofs.Invariant.{within-start, within_last}
 use Rattle.bdf.proofs.Gathered.{rising}
 use Rattle.bdf.proofs.Mapping.{well_formed_lem, spelled_in_order, index_of, mapping_passes}

@@ -1,5 +1,5 @@
 -- Laws of the reader's steps: what each line does, by the cases in which its function returns. Assumes nothing.
-use Prim.Native.Nat.{ℕ, suc, ◌+◌, ◌-◌, ◌/◌, ◌%◌, ◌≤◌, ◌<◌}
+use Prim.Native.Nat.{ℕ, ◌+◌, ◌-◌, ◌/◌, ◌%◌, ◌≤◌, ◌<◌}
 use native.Mathlib.Omega.{arith}
 use mathlib.Core.Path.{◌≡◌, refl, sym, ap, ◌∙◌}
 use mathlib.Core.Bool.{Bool, true, false, not, cond, ◌&&◌, false≢true}
@@ -22,11 +22,11 @@ use Rattle.bdf_lines.specs.declared.values.Row.{Row}
 use Rattle.bdf_lines.specs.declared.values.Row.TheVariants as row
 use Rattle.bdf.specs.declared.reader.BoundingBox.{BoundingBox}
 use Rattle.bdf.specs.declared.reader.Expected.{Expected}
-use Rattle.bdf.specs.declared.reader.Expected.TheVariants.{StartFont, Font, Size, FontBoundingBox, Properties, Property, Chars, Glyph, Encoding, Swidth, Dwidth, Bbx, Attributes, Bitmap, Rows, Nothing}
+use Rattle.bdf.specs.declared.reader.Expected.TheVariants.{Property, Chars, Glyph, Encoding, Swidth, Attributes, Bitmap, Rows, Nothing}
 use Rattle.bdf.specs.declared.reader.Reader.{Reader}
 use Rattle.bdf.specs.declared.reader.Answer.{Answer}
 use Rattle.bdf.specs.declared.reader.Answer.TheVariants.{Refused, Passed, Boxed, Encoded, Drawn}
-use Rattle.bdf.specs.Reader.{origin, is_offset, place, box, baseline, cell_tests, is_cell, box_tests, is_in_cell, is_character, utf8, spelling, expecting, leaving, moved, counted, with_cell, cell_line, properties_line, with_encoding, spelling_line, encoding_line, with_bbx, bbx_line, with_row, row_line, line_step, order, in_bitmap, step}
+use Rattle.bdf.specs.Reader.{origin, place, box, baseline, cell_tests, is_cell, box_tests, is_in_cell, is_character, utf8, spelling, expecting, leaving, moved, counted, with_cell, cell_line, properties_line, spelling_line, encoding_line, with_bbx, bbx_line, with_row, row_line, line_step, order, in_bitmap, step}
 use Rattle.bdf_lines.specs.Words.{words, is_alone, is_named, is_comment, is_hex_pair, row_of}
 use Rattle.bdf_lines.specs.Keywords as word
 use Rattle.bdf.specs.Writing.{InCell, GoodCell}

@@ -1,6 +1,6 @@
 -- A reader of font files, line by line (docs/SHEET.md, Fonts from BDF): what each line does to it, or the refusal. Assumes nothing.
 -- To be believed: it says what a font file means.
-use Rattle.std.specs.Prelude.{ℕ, suc, ◌+◌, ◌-◌, ◌/◌, ◌%◌, Bool, true, false, not, cond, ◌&&◌, List, [], ◌∷◌, map, length, ltb, leb, eqb}
+use Rattle.std.specs.Prelude.{ℕ, ◌+◌, ◌-◌, ◌/◌, ◌%◌, Bool, true, false, not, cond, ◌&&◌, List, [], ◌∷◌, map, length, ltb, leb, eqb}
 use Rattle.characters.specs.Refusal.{need, or_else, all}
 use Rattle.characters.specs.Utf8.{is_surrogate}
 use Rattle.characters.specs.Lines.{lines, without_return}

@@ -1,6 +1,6 @@
 -- What holds of a reader between two lines: the limits that keep its sums small, and what is known by the line that is expected. Assumes nothing.
 -- Serves contracts: nothing here has to be believed.
-use Rattle.std.specs.Prelude.{ℕ, ◌≤◌, ◌≡◌}
+use Rattle.std.specs.Prelude.{◌≤◌, ◌≡◌}
 use Rattle.bdf_lines.specs.declared.values.Number.{Number}
 use Rattle.bdf.specs.declared.reader.Expected.TheVariants.{Swidth, Bitmap, Rows}
 use Rattle.bdf.specs.declared.reader.Reader.{Reader}

@@ -1,6 +1,6 @@
 -- A font as it is written: bitmap lines put one by one into the rows of the atlas, and what the functions that write need. Assumes nothing.
 -- Serves contracts: nothing here has to be believed.
-use Rattle.std.specs.Prelude.{ℕ, ◌+◌, ◌-◌, ◌*◌, ◌/◌, ◌%◌, ◌^◌, ◌≤◌, ◌<◌, ◌≡◌, Bool, true, false, cond, List, [], ◌∷◌, length, take, drop, get_or, leb}
+use Rattle.std.specs.Prelude.{ℕ, ◌+◌, ◌-◌, ◌*◌, ◌/◌, ◌%◌, ◌^◌, ◌≤◌, ◌<◌, cond, List, [], ◌∷◌, length, take, drop, get_or, leb}
 use Rattle.std.specs.Int.Bits.{bit_or}
 use borrow.Rule.Slice.PartMut.{put_mid}
 use Rattle.geometry.specs.Layer.{map_indexed}

@@ -1,0 +1,15 @@
+-- `put_bits` meets its contract: at byte j the bytes before it have their bits, and the others are as they were. Assumes nothing.
+use Rattle.bdf.proofs.Bits.{bits_start, bits_step, bits_end, bits_last}
+use Rattle.bdf.proofs.glyphs.put_bits.Goals as goal
+
+pub loop-j-init : goal.loop-j-init
+loop-j-init c = search bits_start
+
+pub loop-j-preserved : goal.loop-j-preserved
+loop-j-preserved c = search bits_step
+
+pub returns-then-end-j : goal.returns-then-end-j
+returns-then-end-j c = search bits_end
+
+pub returns : goal.returns
+returns c = search bits_last

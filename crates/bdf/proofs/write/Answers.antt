@@ -1,0 +1,30 @@
+-- `write` meets its contract: the length that was measured is that of the font. Assumes nothing.
+use Rattle.bdf.proofs.Fonts.{last_within, head_fits, end_fits, end_cast, short_outcome, short_kept, good_outcome, good_written, output_long}
+use Rattle.bdf.proofs.write.Goals as goal
+
+pub atlas_size-size-requires : goal.atlas_size-size-requires
+atlas_size-size-requires c = search last_within
+
+pub overflow_add-end : goal.overflow_add-end
+overflow_add-end c = search head_fits
+
+pub overflow_add-end-2 : goal.overflow_add-end-2
+overflow_add-end-2 c = search end_fits
+
+pub returns-then-output-end-clause-value : goal.returns-then-output-end-clause-value
+returns-then-output-end-clause-value c = search short_outcome
+
+pub returns-then-output-end-clause-output_after : goal.returns-then-output-end-clause-output_after
+returns-then-output-end-clause-output_after c = search short_kept
+
+pub write_font-requires-clause-font_len : goal.write_font-requires-clause-font_len
+write_font-requires-clause-font_len c = search output_long
+
+pub overflow_cast-result : goal.overflow_cast-result
+overflow_cast-result c = search end_cast
+
+pub returns-clause-value : goal.returns-clause-value
+returns-clause-value c = search good_outcome
+
+pub returns-clause-output_after : goal.returns-clause-output_after
+returns-clause-output_after c = search good_written
