@@ -3,7 +3,7 @@ use Prim.Native.Nat.{ℕ, suc}
 use mathlib.Core.Path.{◌≡◌, refl}
 use mathlib.Core.List.{List, [], ◌∷◌}
 use Rattle.calls.specs.declared.Box.{Box}
-use Rattle.calls.specs.Machine.{Machine, Run, run_until_refused}
+use Rattle.calls.specs.Machine.{Machine, run_until_refused}
 
 module _ {S Input : Type 0} (m : Machine S Input Box) (s : S) where
   pub until_end : run_until_refused m s [] ≡ record { state = s; replies = [] }

@@ -1,6 +1,6 @@
 -- Machines: what one makes of a list of inputs, whole or up to the first that is refused. Assumes nothing.
 -- To be believed: it says what a sheet means.
-use Rattle.std.specs.Prelude.{ℕ, List, [], ◌∷◌}
+use Rattle.std.specs.Prelude.{List, [], ◌∷◌}
 use Rattle.characters.specs.Refusal.{unless_refused}
 use Rattle.calls.specs.declared.Box.{Box}
 
