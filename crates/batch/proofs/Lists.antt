@@ -4,7 +4,6 @@ use native.Mathlib.Omega.{arith}
 use mathlib.Core.Path.{◌≡◌, refl, sym, ap, ◌∙◌}
 use mathlib.Core.Bool.{true}
 use mathlib.Core.List.{List, [], ◌∷◌}
-use lib.IntN.{pos}
 use lib.ListN.{length, drop, length-drop, drop_of_length-le}
 use Rattle.geometry.specs.declared.Rectangle.{Rectangle}
 use Rattle.geometry.specs.Rectangle.{rectangle, join}
@@ -21,12 +20,12 @@ use Rattle.changes.specs.declared.Change.{Change}
 use Rattle.changes.specs.Change.{Checked, area_of, outcome, sheet_after, frame_after}
 use Rattle.calls.specs.declared.Box.{Box}
 use Rattle.calls.specs.declared.Batch.{Batch}
-use Rattle.calls.specs.Machine.{Machine, Run, run_until_refused}
+use Rattle.calls.specs.Machine.{Run, run_until_refused}
 use Rattle.calls.proofs.Machines.{until_end, until_made, until_refused}
-use Rattle.calls.specs.Calls.{box_area, edit_reply, edit_sheet, edit_frame, Logger, patched_machine, singly, batch, zeros, batch_from, batch_of}
+use Rattle.calls.specs.Calls.{box_area, edit_reply, Logger, patched_machine, singly, batch, zeros, batch_from, batch_of}
 use Rattle.batch.specs.declared.Made.{Made}
 use Rattle.batch.specs.Made.{made_batch, made_after, EndsNear}
-use Rattle.batch.proofs.Steps.{edit_reply_lem, edit_sheet_lem, edit_frame_lem, checked_after, reply_code, reply_area, join_near, damage_near, outcome_code, area_is}
+use Rattle.batch.proofs.Steps.{edit_sheet_lem, edit_frame_lem, checked_after, reply_code, reply_area, join_near, damage_near, outcome_code, area_is}
 
 -- ---- the calls made singly, one entry further
 

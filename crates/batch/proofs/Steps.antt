@@ -1,5 +1,5 @@
 -- One edit with a frame, on a sheet that the check accepts and a frame of its size: its call is the edit itself. Assumes nothing.
-use Prim.Native.Nat.{ℕ, zero, suc, ◌+◌, ◌-◌, ◌^◌, ◌≤◌, ◌<◌}
+use Prim.Native.Nat.{ℕ, zero, suc, ◌-◌}
 use native.Mathlib.Omega.{arith}
 use mathlib.Core.Path.{◌≡◌, refl, sym, ap, ◌∙◌}
 use mathlib.Core.List.{List}
@@ -15,7 +15,6 @@ use Rattle.characters.specs.Refusal.{unless_refused}
 use Rattle.text.specs.Signed.{signed_rectangle}
 use Rattle.sheet.specs.Fields.{frame_width}
 use Rattle.sheet.specs.Accepted.{Accepted}
-use Rattle.sheet.specs.Check.{check}
 use Rattle.sheet.specs.Edits.{Edit, item_number, refusal, edited}
 use Rattle.sheet.proofs.Acceptance.{accepted}
 use Rattle.sheet.proofs.Stays.{stays}
