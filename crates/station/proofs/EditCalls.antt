@@ -8,7 +8,6 @@ use lib.IntN.{ℤ, pos}
 use lib.ListN.{length}
 use mir.Syntax.{w32}
 use mir.Val.{SFits}
-use Rattle.geometry.specs.declared.Rectangle.{Rectangle}
 use Rattle.geometry.specs.Rectangle.{rectangle}
 use Rattle.geometry.specs.Layer.{origin}
 use Rattle.geometry.specs.Canvas.{Canvas}
@@ -25,7 +24,7 @@ use Rattle.entries.specs.Entries.{is_filled}
 use Rattle.drawing.specs.Drawing.{repainted}
 use Rattle.drawing.specs.Frames.{target_of}
 use Rattle.changes.specs.declared.Change.{Change}
-use Rattle.changes.specs.Change.{Checked, area_of, outcome, sheet_after, frame_after}
+use Rattle.changes.specs.Change.{Checked, area_of, outcome, sheet_after}
 use Rattle.calls.specs.declared.Box.{Box}
 use Rattle.calls.specs.declared.Batch.{Batch}
 use Rattle.calls.specs.Calls.{box_reply, draw_code, edit_code, edit_reply, edit_sheet, edit_frame, singly, zeros, batch, batch_of, edit_list_code, edit_list_reply, on_sheet_code, on_sheet_reply, on_sheet_sheet}

@@ -5,7 +5,6 @@ use native.Mathlib.Omega.{arith}
 use mathlib.Core.Path.{◌≡◌, refl, sym, ap, ◌∙◌}
 use mathlib.Core.Bool.{true}
 use mathlib.Core.List.{List, ◌++◌}
-use lib.IntN.{ℤ}
 use lib.ListN.{length, length-append}
 use borrow.Author.Tests.{eq-eqb, le-leb, lt-ltb}
 use Rattle.geometry.specs.declared.Point.{Point}
@@ -20,7 +19,7 @@ use Rattle.text.specs.Text.{Text, layer, next, replaced}
 use Rattle.text.proofs.Joining.{run_at, TextJoined, text_joined}
 use Rattle.sheet.specs.Fields.{frame_width, item_count, item_at, slot_size}
 use Rattle.sheet.specs.Check.{check}
-use Rattle.sheet.specs.Edits.{Edit, new_text, new_place, in_range, text_refusal, place_refusal, refusal, biased, edited}
+use Rattle.sheet.specs.Edits.{Edit, new_text, new_place, in_range, text_refusal, place_refusal, refusal, edited}
 use Rattle.sheet.proofs.Acceptance.{accepted}
 use Rattle.sheet.proofs.Bytes.{same-le16_at}
 use Rattle.sheet.proofs.Stays.{stays}
@@ -160,11 +159,11 @@ module _ (b frame : List ℕ) (n : ℕ) (t u : List ℕ) (h : TwoRuns b frame n 
   first-reply : first_reply b frame n t u ≡ drawn_at behind (replaced font one)
   first-reply = draw-reply b n one _ first.sheet frame sized
 
-  first_frame : first_frame b frame n t u ≡ paint (frame_width b) (layer font one) frame
-  first_frame = draw-frame b n one _ first.sheet frame sized
+  drawn_first : first_frame b frame n t u ≡ paint (frame_width b) (layer font one) frame
+  drawn_first = draw-frame b n one _ first.sheet frame sized
 
   first-size : length (first_frame b frame n t u) ≡ pixel_count b
-  first-size = painted-size b frame n h.drawable _ _ first_frame
+  first-size = painted-size b frame n h.drawable _ _ drawn_first
 
   moved : Made b n (run_at (item b n) t behind) (first_sheet b frame n t u) (set_place b frame n t u)
   moved = rw first-reply (place-made b n one _ first.sheet behind (rw first-reply at h.second_x_in_range) (rw first-reply at h.second_y_in_range))
@@ -194,7 +193,7 @@ module _ (b frame : List ℕ) (n : ℕ) (t u : List ℕ) (h : TwoRuns b frame n 
     joined_set = joined.code;
     joined_drawn = rw joined-reply;
     same_frame =
-        draw-frame b n two _ second.sheet _ first-size ∙ ap (paint (frame_width b) (layer font two)) first_frame
+        draw-frame b n two _ second.sheet _ first-size ∙ ap (paint (frame_width b) (layer font two)) drawn_first
         ∙ paint_joined (frame_width b) _ _ _ frame law.layers ∙ sym (draw-frame b n both _ joined.sheet frame sized);
     same_x = rw (second-reply, joined-reply, law.position);
     same_y = rw (second-reply, joined-reply, law.position);

@@ -9,9 +9,9 @@ use mathlib.Core.List.{List, [], ◌∷◌}
 use lib.IntN.{pos}
 use lib.ListN.{length, get_or}
 use Rattle.geometry.specs.declared.Rectangle.{Rectangle}
-use Rattle.geometry.specs.Rectangle.{rectangle, covers, join, joins}
-use Rattle.geometry.specs.Layer.{origin, signed}
-use Rattle.geometry.proofs.Rectangles.{In, covers_in, in_covers, out_covers, Within, join_left, join-right, joins_first, join-within}
+use Rattle.geometry.specs.Rectangle.{rectangle, covers, join}
+use Rattle.geometry.specs.Layer.{origin}
+use Rattle.geometry.proofs.Rectangles.{In, covers_in, in_covers, out_covers, Within, join_left, join-right, join-within}
 use Rattle.text.specs.Signed
 use Rattle.text.specs.Signed.{SignedRectangle, signed_rectangle}
 use Rattle.text.proofs.Signed.{signed-covers, signed-origin, signed-join}
@@ -28,12 +28,12 @@ use Rattle.calls.specs.declared.Box.{Box}
 use Rattle.calls.specs.declared.Batch.{Batch}
 use Rattle.calls.specs.Machine.{Run, run_until_refused}
 use Rattle.calls.proofs.Machines.{until_end, until_made, until_refused}
-use Rattle.calls.specs.Calls.{box_reply, edit_damage, edit_code, edit_reply, edit_sheet, edit_frame, Logger, patched_machine, singly, zeros, box_area, batch_from, batch_of, edit_list_code, edit_list_reply, edit_list_sheet, edit_list_frame}
+use Rattle.calls.specs.Calls.{box_reply, edit_damage, edit_reply, edit_sheet, edit_frame, Logger, patched_machine, singly, zeros, box_area, batch_from, batch_of, edit_list_code, edit_list_reply, edit_list_sheet, edit_list_frame}
 use Rattle.changes.specs.Change.{Checked}
 use Rattle.batch.proofs.Steps.{edit_code_lem, edit_reply_lem, reply_code, reply_area, checked_call}
 use Rattle.batch.proofs.Lists.{batch_made, batch_refused}
 use Rattle.station.specs.Machine.{plain_machine, plain_step, plain_reply}
-use Rattle.station.proofs.Runs.{sheet_as, reply_as, edit_page, step_accepted, step-size, Simulates, Alike, until_alike}
+use Rattle.station.proofs.Runs.{sheet_as, reply_as, Simulates, Alike, until_alike}
 use Rattle.station.proofs.Demand3.{Follows, edits_follow, drawn, edit_drawn, OneEdit, one_edit}
 use Rattle.station.proofs.EditCalls.{list_checked}
 

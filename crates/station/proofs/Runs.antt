@@ -19,7 +19,6 @@ use Rattle.calls.specs.declared.Box.{Box}
 use Rattle.calls.specs.Machine.{Machine, Run, run, run_until_refused}
 use Rattle.calls.proofs.Machines.{until_end, until_made, until_refused}
 use Rattle.calls.proofs.Refusals.{edit_list_code_is}
-use Rattle.changes.specs.Change.{Checked}
 use Rattle.batch.proofs.Steps.{edit_code_lem}
 use Rattle.station.specs.Machine.{plain_step, plain_reply, EditStep, single, list, StepReply, to_single, to_list, patched_steps, counted, singly_steps}
 

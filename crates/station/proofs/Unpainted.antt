@@ -1,11 +1,10 @@
 -- An accepted edit of an item that paints nothing, before and after, replies zeros and touches no pixel. Assumes nothing.
-use Prim.Native.Nat.{ℕ, ◌<◌}
+use Prim.Native.Nat.{ℕ}
 use native.Mathlib.Omega.{arith}
-use mathlib.Core.Path.{◌≡◌, refl, sym, ◌∙◌}
+use mathlib.Core.Path.{◌≡◌, ◌∙◌}
 use mathlib.Core.Bool.{false}
 use mathlib.Core.List.{List}
 use lib.IntN.{pos}
-use lib.ListN.{length, get_or}
 use lib.Seq.{ext_get_or}
 use Rattle.geometry.specs.Rectangle.{rectangle, covers}
 use Rattle.geometry.specs.Layer.{origin}
@@ -14,7 +13,7 @@ use Rattle.line.specs.Ink.{NoRow}
 use Rattle.text.proofs.Signed.{signed-origin}
 use Rattle.sheet.specs.Edits.{Edit, item_number, edited}
 use Rattle.records.specs.Records.{item, item_font}
-use Rattle.drawing.specs.Drawing.{column_of, row_of, damage}
+use Rattle.drawing.specs.Drawing.{column_of, row_of}
 use Rattle.drawing.proofs.DamageHolds.{damage_none}
 use Rattle.calls.specs.declared.Box.{Box}
 use Rattle.calls.specs.Calls.{box_reply, edit_damage, edit_code, edit_reply, edit_frame}

@@ -1,4 +1,4 @@
-// The exported calls, for a host in C. Each that takes a sheet runs the check first, then its own tests, rising; a refused call has its
+// The exported calls; crate station_c hands them to a host in C. Each that takes a sheet runs the check first, then its own tests, rising; a refused call has its
 // number for a code and zeros, and leaves sheet, frame and output as they were. A list of edits that stops at a refused one keeps those before it.
 #![tactic(auto)]
 
@@ -28,16 +28,14 @@ use records::{font_at, mapping_bytes};
 use sheet::fields::{frame_height, frame_width};
 
 // The number of the sheet's first refusal, or 0 for a sheet that is accepted.
-#[unsafe(no_mangle)]
-pub extern "C" fn station_check(sheet: &[u8]) -> u32
+pub fn station_check(sheet: &[u8]) -> u32
     ensures { result ≡ check sheet.now }
 {
     sheet::check(sheet)
 }
 
 // The index of a character's glyph in a font, and 1 if the font's mapping lists the character, else 0.
-#[unsafe(no_mangle)]
-pub extern "C" fn station_index(sheet: &[u8], font: u32, character: u32) -> Glyph
+pub fn station_index(sheet: &[u8], font: u32, character: u32) -> Glyph
     ensures { result ≡ index_reply sheet.now font character }
 {
     let code = font_code(sheet, font);
@@ -55,8 +53,7 @@ pub extern "C" fn station_index(sheet: &[u8], font: u32, character: u32) -> Glyp
 }
 
 // Whether a font's mapping lists a character: 1 or 0.
-#[unsafe(no_mangle)]
-pub extern "C" fn station_contains(sheet: &[u8], font: u32, character: u32) -> Number
+pub fn station_contains(sheet: &[u8], font: u32, character: u32) -> Number
     ensures { result ≡ contains_reply sheet.now font character }
 {
     let code = font_code(sheet, font);
@@ -69,8 +66,7 @@ pub extern "C" fn station_contains(sheet: &[u8], font: u32, character: u32) -> N
 }
 
 // The measured box of an item.
-#[unsafe(no_mangle)]
-pub extern "C" fn station_bounding_box(sheet: &[u8], item: u32) -> Box
+pub fn station_bounding_box(sheet: &[u8], item: u32) -> Box
     ensures { result ≡ bounding_box_reply sheet.now item }
 {
     let code = item_code(sheet, item);
@@ -82,8 +78,7 @@ pub extern "C" fn station_bounding_box(sheet: &[u8], item: u32) -> Box
 }
 
 // Draws an item on the frame; gives the next position, and how many characters of its lines the font's mapping does not list.
-#[unsafe(no_mangle)]
-pub extern "C" fn station_draw_item(sheet: &[u8], frame: &mut [u8], item: u32) -> Drawn
+pub fn station_draw_item(sheet: &[u8], frame: &mut [u8], item: u32) -> Drawn
     ensures value { result ≡ draw_item_reply sheet.now frame.old item }
     ensures frame_after { frame.new ≡ draw_item_frame sheet.now frame.old item }
 {
@@ -97,13 +92,7 @@ pub extern "C" fn station_draw_item(sheet: &[u8], frame: &mut [u8], item: u32) -
 }
 
 // Draws whitespace of a width at an item's place on the frame; gives the next position.
-#[unsafe(no_mangle)]
-pub extern "C" fn station_draw_whitespace(
-    sheet: &[u8],
-    frame: &mut [u8],
-    item: u32,
-    width: u32,
-) -> Position
+pub fn station_draw_whitespace(sheet: &[u8], frame: &mut [u8], item: u32, width: u32) -> Position
     ensures value { result ≡ whitespace_reply sheet.now frame.old item width }
     ensures frame_after { frame.new ≡ whitespace_frame sheet.now frame.old item width }
 {
@@ -116,8 +105,7 @@ pub extern "C" fn station_draw_whitespace(
 }
 
 // Draws the page on the frame.
-#[unsafe(no_mangle)]
-pub extern "C" fn station_draw(sheet: &[u8], frame: &mut [u8]) -> u32
+pub fn station_draw(sheet: &[u8], frame: &mut [u8]) -> u32
     ensures value { result ≡ draw_code sheet.now frame.old }
     ensures frame_after { frame.new ≡ draw_frame sheet.now frame.old }
 {
@@ -130,13 +118,7 @@ pub extern "C" fn station_draw(sheet: &[u8], frame: &mut [u8]) -> u32
 }
 
 // Gives an item a new text, and repaints its damage rectangle, which it gives.
-#[unsafe(no_mangle)]
-pub extern "C" fn station_set_text(
-    sheet: &mut [u8],
-    frame: &mut [u8],
-    item: u32,
-    text: &[u8],
-) -> Box
+pub fn station_set_text(sheet: &mut [u8], frame: &mut [u8], item: u32, text: &[u8]) -> Box
     ensures value { result ≡ edit_reply sheet.old frame.old (new_text item text.now) }
     ensures sheet_after { sheet.new ≡ edit_sheet sheet.old frame.old (new_text item text.now) }
     ensures frame_after { frame.new ≡ edit_frame sheet.old frame.old (new_text item text.now) }
@@ -155,14 +137,7 @@ pub extern "C" fn station_set_text(
 }
 
 // Gives an item a new place, and repaints its damage rectangle, which it gives.
-#[unsafe(no_mangle)]
-pub extern "C" fn station_set_place(
-    sheet: &mut [u8],
-    frame: &mut [u8],
-    item: u32,
-    x: i32,
-    y: i32,
-) -> Box
+pub fn station_set_place(sheet: &mut [u8], frame: &mut [u8], item: u32, x: i32, y: i32) -> Box
     ensures value { result ≡ edit_reply sheet.old frame.old (new_place item x y) }
     ensures sheet_after { sheet.new ≡ edit_sheet sheet.old frame.old (new_place item x y) }
     ensures frame_after { frame.new ≡ edit_frame sheet.old frame.old (new_place item x y) }
@@ -181,13 +156,7 @@ pub extern "C" fn station_set_place(
 }
 
 // Gives an item a new style, and repaints its damage rectangle, which it gives.
-#[unsafe(no_mangle)]
-pub extern "C" fn station_set_style(
-    sheet: &mut [u8],
-    frame: &mut [u8],
-    item: u32,
-    style: &[u8],
-) -> Box
+pub fn station_set_style(sheet: &mut [u8], frame: &mut [u8], item: u32, style: &[u8]) -> Box
     ensures value { result ≡ edit_reply sheet.old frame.old (new_style item style.now) }
     ensures sheet_after { sheet.new ≡ edit_sheet sheet.old frame.old (new_style item style.now) }
     ensures frame_after { frame.new ≡ edit_frame sheet.old frame.old (new_style item style.now) }
@@ -207,8 +176,7 @@ pub extern "C" fn station_set_style(
 
 // Makes a list of edits in order, up to the first that is refused; gives how many were made, and the smallest rectangle that holds those that they
 // repainted.
-#[unsafe(no_mangle)]
-pub extern "C" fn station_edit_list(sheet: &mut [u8], frame: &mut [u8], list: &[u8]) -> Batch
+pub fn station_edit_list(sheet: &mut [u8], frame: &mut [u8], list: &[u8]) -> Batch
     ensures value { result ≡ edit_list_reply sheet.old frame.old list.now }
     ensures sheet_after { sheet.new ≡ edit_list_sheet sheet.old frame.old list.now }
     ensures frame_after { frame.new ≡ edit_list_frame sheet.old frame.old list.now }
@@ -222,8 +190,7 @@ pub extern "C" fn station_edit_list(sheet: &mut [u8], frame: &mut [u8], list: &[
 }
 
 // Gives an item a new text on the sheet alone; gives the damage rectangle.
-#[unsafe(no_mangle)]
-pub extern "C" fn station_set_text_on_sheet(sheet: &mut [u8], item: u32, text: &[u8]) -> Box
+pub fn station_set_text_on_sheet(sheet: &mut [u8], item: u32, text: &[u8]) -> Box
     ensures value { result ≡ on_sheet_reply sheet.old (new_text item text.now) }
     ensures sheet_after { sheet.new ≡ on_sheet_sheet sheet.old (new_text item text.now) }
 {
@@ -237,8 +204,7 @@ pub extern "C" fn station_set_text_on_sheet(sheet: &mut [u8], item: u32, text: &
 }
 
 // Gives an item a new place on the sheet alone; gives the damage rectangle.
-#[unsafe(no_mangle)]
-pub extern "C" fn station_set_place_on_sheet(sheet: &mut [u8], item: u32, x: i32, y: i32) -> Box
+pub fn station_set_place_on_sheet(sheet: &mut [u8], item: u32, x: i32, y: i32) -> Box
     ensures value { result ≡ on_sheet_reply sheet.old (new_place item x y) }
     ensures sheet_after { sheet.new ≡ on_sheet_sheet sheet.old (new_place item x y) }
 {
@@ -252,8 +218,7 @@ pub extern "C" fn station_set_place_on_sheet(sheet: &mut [u8], item: u32, x: i32
 }
 
 // Gives an item a new style on the sheet alone; gives the damage rectangle.
-#[unsafe(no_mangle)]
-pub extern "C" fn station_set_style_on_sheet(sheet: &mut [u8], item: u32, style: &[u8]) -> Box
+pub fn station_set_style_on_sheet(sheet: &mut [u8], item: u32, style: &[u8]) -> Box
     ensures value { result ≡ on_sheet_reply sheet.old (new_style item style.now) }
     ensures sheet_after { sheet.new ≡ on_sheet_sheet sheet.old (new_style item style.now) }
 {
@@ -267,8 +232,7 @@ pub extern "C" fn station_set_style_on_sheet(sheet: &mut [u8], item: u32, style:
 }
 
 // The frame as a Netpbm file, stored at the head of the output, and its length.
-#[unsafe(no_mangle)]
-pub extern "C" fn station_write_page(sheet: &[u8], frame: &[u8], output: &mut [u8]) -> Number
+pub fn station_write_page(sheet: &[u8], frame: &[u8], output: &mut [u8]) -> Number
     ensures value { result ≡ page_reply sheet.now frame.now output.old }
     ensures output_after { output.new ≡ page_output sheet.now frame.now output.old }
 {
@@ -286,8 +250,7 @@ pub extern "C" fn station_write_page(sheet: &[u8], frame: &[u8], output: &mut [u
 }
 
 // The font of a BDF file, stored at the head of the output, and its length.
-#[unsafe(no_mangle)]
-pub extern "C" fn station_read_bdf(file: &[u8], output: &mut [u8]) -> Number
+pub fn station_read_bdf(file: &[u8], output: &mut [u8]) -> Number
     ensures value { result ≡ read_bdf_reply file.now (length output.old) }
     ensures output_after { output.new ≡ written file.now output.old }
 {
@@ -301,8 +264,7 @@ pub extern "C" fn station_read_bdf(file: &[u8], output: &mut [u8]) -> Number
 }
 
 // One step of a walker over a line: the character at an offset and the offset of the next, the end, or 10.
-#[unsafe(no_mangle)]
-pub extern "C" fn station_walk(line: &[u8], offset: usize) -> Step
+pub fn station_walk(line: &[u8], offset: usize) -> Step
     ensures { result ≡ walk_reply line.now offset }
 {
     match walk_from(line, offset) {
