@@ -3,17 +3,15 @@
 #
 #   tests/edits.sh [CRATE..]
 #
-# tests/edits/CRATE/*.edit have the form of the must-fail edits. They are tried in a copy of the repository, with what target/
-# holds of it already proved.
+# tests/edits/CRATE/*.edit have the form of the must-fail edits. They are tried in a copy of the repository, which begins with what
+# 'rt check' kept of each crate in this one.
 set -euo pipefail
 cd "$(dirname "$0")/.."
 names=("$@")
 [ ${#names[@]} -gt 0 ] || names=($(ls tests/edits))
 copy=$(mktemp -d)
 trap 'rm -rf "$copy"' EXIT
-cp -R crates crates.txt "$copy"
-[ ! -d target ] || cp -R target "$copy"
-rm -rf "$copy"/crates/*/must-fail
+tar -c --exclude='crates/*/out' --exclude='crates/*/must-fail' crates crates.txt | tar -x -C "$copy"
 for name in "${names[@]}"; do
   cp -R "tests/edits/$name" "$copy/crates/$name/must-fail"
 done
