@@ -1,6 +1,6 @@
 /* Reading a BDF file: the exported call beside FreeType, which opens the same bytes and loads every glyph.
 
-     rt staticlib station
+     tools/build.sh library
      cc -std=c99 -O2 -Iinclude $(pkg-config --cflags freetype2) bench/bdf.c target/staticlib/libstation.a $(pkg-config --libs freetype2) -o target/bdf_times
      target/bdf_times FONT.bdf [ROUNDS]
 

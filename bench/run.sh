@@ -6,7 +6,7 @@
 # With 'quick' everything runs once: the pages are compared, and the times say nothing. With 'separate' the crate is optimised
 # by itself, as a release build has it unless it is told otherwise; else together with its caller, which is its fastest.
 # FOLDER has the listed files of embedded-graphics 0.8.2 (default: ../shared/docs/src). The exported
-# calls are those of target/staticlib/libstation.a ('rt staticlib station'); without it the oracle's
+# calls are those of target/staticlib/libstation.a ('tools/build.sh library'); without it the oracle's
 # plain formulas stand in for them, and the calls' declarations are compiled only.
 set -euo pipefail
 cd "$(dirname "$0")/.."

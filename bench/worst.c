@@ -1,6 +1,6 @@
 /* The worst cases of the exported calls: sheets at the limits, and the time of each call on them.
 
-     rt staticlib station
+     tools/build.sh library
      cc -std=c99 -O2 -Iinclude bench/worst.c target/staticlib/libstation.a -o target/worst && target/worst
 
    'lookups' has the largest mapping that 64 full slots leave room for, ranges of one character with a single one between them, and texts

@@ -230,21 +230,21 @@ uint32_t station_draw(const uint8_t *sheet, size_t sheet_length, uint8_t *frame,
  *     station_set_place_on_sheet with the first reply's x and y, station_set_text_on_sheet with u, station_draw_item: the second reply
  *
  * or, from the same sheet and the same frame, joined: station_set_text_on_sheet with t followed by u, station_draw_item. It is proved (the theorem
- * strings-joined; the names are those of its statement in docs/TRUST.md) that if
+ * strings_joined; the names are those of its statement in docs/TRUST.md) that if
  *
  *     drawable                                  the sheet is accepted, the frame has its size, and the item is there,
- *     spacing-zero, aligned-left                the item's font has the spacing 0, and the item's alignment is left,
- *     first-one-line, second-one-line           t and u have no byte 0A and no byte 0D,
- *     first-well-formed, second-well-formed     each is UTF-8 by itself, so that no character is cut in two,
- *     joined-fits-slot                          t followed by u fits the item's slot, and
- *     second-x-in-range, second-y-in-range      the first reply's x and y are in -32768 to 32767,
+ *     spacing_zero, aligned_left                the item's font has the spacing 0, and the item's alignment is left,
+ *     first_one_line, second_one_line           t and u have no byte 0A and no byte 0D,
+ *     first_well_formed, second_well_formed     each is UTF-8 by itself, so that no character is cut in two,
+ *     joined_fits_slot                          t followed by u fits the item's slot, and
+ *     second_x_in_range, second_y_in_range      the first reply's x and y are in -32768 to 32767,
  *
  * then, in every style and baseline and wherever the frame ends,
  *
- *     first-set, first-drawn, place-set, second-set, second-drawn, joined-set, joined-drawn      no code of these is other than STATION_OK,
- *     same-frame                                the frame of the two runs and the joined one have the same greys,
- *     same-x, same-y                            the second reply and the joined one have the same x and y, and
- *     replaced-adds-up                          replaced of the first reply and of the second add up to that of the joined one.
+ *     first_set, first_drawn, place_set, second_set, second_drawn, joined_set, joined_drawn      no code of these is other than STATION_OK,
+ *     same_frame                                the frame of the two runs and the joined one have the same greys,
+ *     same_x, same_y                            the second reply and the joined one have the same x and y, and
+ *     replaced_adds_up                          replaced of the first reply and of the second add up to that of the joined one.
  *
  * Refusals: STATION_REFUSED_FRAME_LENGTH, STATION_REFUSED_NO_SUCH.
  */
@@ -255,17 +255,17 @@ station_drawn station_draw_item(const uint8_t *sheet, size_t sheet_length, uint8
  * position.
  *
  * Two widths v and w, the second after station_set_place_on_sheet with the first reply's x and y, are the width v + w on the sheet and the frame as
- * they were at first. It is proved (widths-joined, in docs/TRUST.md) that if
+ * they were at first. It is proved (widths_joined, in docs/TRUST.md) that if
  *
  *     drawable                                  the sheet is accepted, the frame has its size, and the item is there,
- *     widths-add-up                             v + w is at most 65535, and
- *     second-x-in-range, second-y-in-range      the first reply's x and y are in -32768 to 32767,
+ *     widths_add_up                             v + w is at most 65535, and
+ *     second_x_in_range, second_y_in_range      the first reply's x and y are in -32768 to 32767,
  *
  * then, whatever the font's spacing and the item's text, alignment, style and baseline,
  *
- *     first-drawn, place-set, second-drawn, joined-drawn      no code of these is other than STATION_OK,
- *     same-frame                                the frame of the two widths and the joined one have the same greys, and
- *     same-x, same-y                            the second reply and the joined one have the same x and y.
+ *     first_drawn, place_set, second_drawn, joined_drawn      no code of these is other than STATION_OK,
+ *     same_frame                                the frame of the two widths and the joined one have the same greys, and
+ *     same_x, same_y                            the second reply and the joined one have the same x and y.
  *
  * Refusals: STATION_REFUSED_FRAME_LENGTH, STATION_REFUSED_NO_SUCH, STATION_REFUSED_WHITESPACE.
  */

@@ -5,7 +5,7 @@
 #
 # FOLDER has the listed files of embedded-graphics 0.8.2 (default: ../shared/docs/src). They are
 # compiled unchanged, over stand-ins for what they import; sums that overflow stop the program.
-# If target/staticlib/libstation.a exists ('rt staticlib station'), the comparison is linked to it.
+# If target/staticlib/libstation.a exists ('tools/build.sh library'), the comparison is linked to it.
 set -euo pipefail
 cd "$(dirname "$0")/.."
 . oracle/crates.sh

@@ -35,7 +35,7 @@ make_freetype() {
 
 # The measurement beside FreeType reads the sample's font once.
 run_bench() {
-  [ -f "$archive" ] || rt staticlib station || return
+  [ -f "$archive" ] || tools/build.sh library || return
   with_freetype -Iinclude bench/bdf.c "$archive" -o "$out/bench" &&
     "$out/bench" samples/fonts/georgian-9x18.bdf 1 | tee "$out/times" && grep -q '^ratio ' "$out/times"
 }
@@ -46,9 +46,9 @@ fetch_fonts() {
 }
 
 mkdir -p "$out"
-[ -x target/bin/read_bdf ] || rt check read_bdf >"$out/log" 2>&1
+[ -x target/bin/read_bdf ] || tools/build.sh read_bdf >"$out/log" 2>&1
 if ! [ -x target/bin/read_bdf ]; then
-  echo "FAILED read_bdf: 'rt check read_bdf' does not make it"
+  echo "FAILED read_bdf: 'tools/build.sh read_bdf' does not make it"
   echo '0 passed, 1 failed'
   exit 1
 fi
@@ -75,7 +75,7 @@ fi
 
 # The program for files of any length.
 make_read_font() {
-  [ -f "$archive" ] || rt staticlib station || return
+  [ -f "$archive" ] || tools/build.sh library || return
   cc "${flags[@]}" -Iinclude tests/host/read_font.c "$archive" -o "$out/read_font"
 }
 

@@ -121,7 +121,7 @@ def test_bdf_with_another_program(folder):
     good, bad = stored_fonts.file(stored_fonts.BASE), stored_fonts.file(stored_fonts.BASE[:-1])
     program = folder / "read_bdf"
     with programs_of(folder):
-        expect_error(make_sheet(folder, good), 2, "target/bin/read_bdf is missing: make it with 'rt check read_bdf'")
+        expect_error(make_sheet(folder, good), 2, "target/bin/read_bdf is missing: make it with 'tools/build.sh read_bdf'")
     for content, said, words in ((good, "echo refused 20", "refuses it with 20, and the tool finds no fault in it"),
                                  (bad, "echo refused 20", "and the tool finds 19 on line 30"),
                                  (bad, "printf x", "reads it, and the tool finds 19 on line 30"), (good, "printf x", "something else than a record"),

@@ -399,7 +399,7 @@ def test_edits_without_program(folder):
     copy_programs(folder / "bin")
     program.unlink()
     with programs_of(folder / "bin"):
-        expect_error(sheet_tool("set", path, 4, "text", "2 m"), 2, "target/bin/station_edits is missing: make it with 'rt check station_edits'")
+        expect_error(sheet_tool("set", path, 4, "text", "2 m"), 2, "target/bin/station_edits is missing: make it with 'tools/build.sh station_edits'")
         for script, words in (("echo 12 0 0 0 0 0", "the edit: target/bin/station_edits refuses it with 12, and the tool finds no fault in it"),
                               ("exit 3", "ended with status 3"), ("echo too long", "something else"), ("echo 0 1 0 0 0 0; echo", "something else"),
                               ("echo 0 0 0 0 0 0; head -c 3740 | tail -c 3736", "something else"), ("echo 12 1 0 0 0 0", "something else"), ("echo 12 0 0 0 0 0; cat", "something else"),

@@ -16,7 +16,7 @@ def script(path, text):
     path.chmod(0o755)
 
 
-def make_clone(folder, kit=KIT, host="echo '2 passed, 0 failed'"):
+def make_clone(folder, kit=KIT, host="echo '2 passed, 0 failed'", edits=""):
     """A clone below the folder, and a folder of programs: rt, and a rustc that is never run."""
     clone = folder / "clone"
     for name in (".ci/run", "docs/KIT.md", "tests/oracle.sh", "oracle/crates.sh", "oracle/hashes.sha256"):
@@ -25,7 +25,8 @@ def make_clone(folder, kit=KIT, host="echo '2 passed, 0 failed'"):
     script(clone / "tests/host.sh", host)
     script(clone / "tests/paper.sh", "echo '7 passed, 0 failed'")
     script(clone / "tests/bdf.sh", "echo '5 passed, 0 failed'")
-    script(folder / "bin/rt", f"case $1 in version) echo '{kit}' ;; ci) echo '3 passed, 0 failed' ;; esac")
+    script(clone / "tools/build.sh", "exit 0")
+    script(folder / "bin/rt", f"case $1 in version) echo '{kit}' ;; ci) echo '{edits}'; echo '3 passed, 0 failed' ;; esac")
     script(folder / "bin/rustc", "exit 1")
     return clone
 
@@ -62,6 +63,15 @@ def test_gate_counts(folder):
     script(clone / "tests/host.sh", "exit 3")
     status, lines = run(folder, ".ci/run")
     same("a part without a count", (status, lines[-1]), (1, "15 passed, 1 failed"))
+
+
+def test_gate_with_bad_edit(folder):
+    """An edit that rt cannot try is a failure here, and no failure to rt."""
+    make_clone(folder, edits="rt: ok: 2 crates; must-fail edits: 4 refused")
+    same("none bad", run(folder, ".ci/run")[0], 0)
+    script(folder / "bin/rt", f"case $1 in version) echo '{KIT}' ;; ci) echo 'rt: ok: 2 crates; must-fail edits: 3 refused, 1 bad'; echo '3 passed, 0 failed' ;; esac")
+    status, lines = run(folder, ".ci/run")
+    same("status and last line", (status, lines[-1]), (1, "3 passed, 1 failed"))
 
 
 def test_oracle_without_crate(folder):

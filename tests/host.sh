@@ -49,12 +49,12 @@ has_compiler() {
 
 make_archive() {
   if [ ! -f "$archive" ] || [ -n "$(find crates crates.txt -newer "$archive" \( -name '*.rt' -o -name crates.txt \) -print -quit)" ]; then
-    rt staticlib station
+    tools/build.sh library
   fi
 }
 
 make_program() {
-  [ -x "target/bin/$1" ] || rt check "$1"
+  [ -x "target/bin/$1" ] || tools/build.sh "$1"
 }
 
 # header COMPILER STANDARD LANGUAGE: the header alone, and twice, without a warning.

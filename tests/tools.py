@@ -106,7 +106,7 @@ def test_show_without_program(folder):
         run = sheet_tool("show", ROOT / "samples/greek.sheet")
     same("status", run.status, 0)
     same("lines", run.out.count("\n"), 2 + 4 + 3 * 11)
-    same("how to make it", ("'rt check station_items' makes it" in run.err, run.err.count("\n")), (True, 1))
+    same("how to make it", ("'tools/build.sh station_items' makes it" in run.err, run.err.count("\n")), (True, 1))
     (folder / "station_items").write_text("#!/bin/sh\necho 0 1 2 3\n", encoding="ascii")
     (folder / "station_items").chmod(0o755)
     with programs_of(folder):

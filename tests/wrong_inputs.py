@@ -452,7 +452,7 @@ def test_warnings_without_program(folder):
     same("without station_items", (len(lines), "item 0 (stage): paints nothing on the frame: it lies off it" in lines[0]), (1, True))
     with programs_of(folder):
         lines = new(folder, odd).err.splitlines()
-        same("without station_page", (len(lines), "'rt check station_page' makes it" in lines[0]), (1, True))
+        same("without station_page", (len(lines), "'tools/build.sh station_page' makes it" in lines[0]), (1, True))
         same("without a text", new(folder, odd[:odd.index("[[item]]")]).err, "")
 
 

@@ -1,4 +1,4 @@
-"""Writes a C file that compiles only if include/station.h declares what the crates export: the calls of station, the replies of calls.
+"""Writes a C file that compiles only if include/station.h declares what the crates export: the calls of station_c, the replies of calls.
 
 Usage: python3 tests/host/declarations.py > FILE.c
 
@@ -21,13 +21,13 @@ def c_name(struct):
 
 def structs(source):
     """Each struct's name, and the names and types of its fields."""
-    for name, body in re.findall(r"#\[repr\(C\)\]\s*pub struct (\w+) \{(.*?)\}", source, re.S):
+    for name, body in re.findall(r"#\[repr\(C\)\]\s*(?:#\[derive\([^)]*\)\]\s*)?pub struct (\w+) \{(.*?)\}", source, re.S):
         yield name, re.findall(r"pub (\w+): (\w+),", body)
 
 
 def functions(source):
     """Each exported function's name, the names and types of its parameters, and the type of its reply."""
-    for name, parameters, reply in re.findall(r'#\[no_mangle\]\s*pub extern "C" fn (\w+)\((.*?)\)\s*->\s*(\w+)', source, re.S):
+    for name, parameters, reply in re.findall(r'#\[unsafe\(no_mangle\)\]\s*pub extern "C" fn (\w+)\((.*?)\)\s*->\s*(\w+)', source, re.S):
         yield name, re.findall(r"(\w+): ([^,]+?)\s*(?:,|$)", parameters.strip()), reply
 
 
@@ -59,7 +59,7 @@ def struct_lines(name, fields):
 
 
 def main():
-    source = "".join((ROOT / "crates" / name / "src/lib.rt").read_text(encoding="utf-8") for name in ("calls", "station"))
+    source = "".join((ROOT / "crates" / name / "src/lib.rt").read_text(encoding="utf-8") for name in ("calls", "station_c"))
     header = re.sub(r"/\*.*?\*/", "", (ROOT / "include/station.h").read_text(encoding="utf-8"), flags=re.S)
     exported, declared = {name for name, _, _ in functions(source)}, set(declarations(header))
     replied, defined = {c_name(name) for name, _ in structs(source)}, set(re.findall(r"\}\s*(station_\w+);", header))

@@ -27,7 +27,7 @@ Refusal = namedtuple("Refusal", "number line cause")
 def read_bdf(data, name):
     """The font's record, with the offsets that it has by itself, its atlas and its mapping; messages give the file this name."""
     if not is_there("read_bdf"):
-        raise Problem(f"{name}: target/bin/read_bdf is missing: make it with 'rt check read_bdf'", 2)
+        raise Problem(f"{name}: target/bin/read_bdf is missing: make it with 'tools/build.sh read_bdf'", 2)
     if len(data) > MOST_FILE:
         raise Problem(f"{name}: it has {len(data):,} bytes, and read_bdf takes {MOST_FILE:,}")
     said = run("read_bdf", data)

@@ -64,7 +64,7 @@ def run_new(arguments, files):
     for line in warnings(description):
         note(f"warning: {name}: {line}")
     if any(item.text for item in description.items) and not is_there("station_page"):
-        note("target/bin/station_page is missing: 'rt check station_page' makes it, and 'new' then warns of items that paint nothing on the frame")
+        note("target/bin/station_page is missing: 'tools/build.sh station_page' makes it, and 'new' then warns of items that paint nothing on the frame")
     files.finish()
 
 
@@ -76,7 +76,7 @@ def run_show(arguments, files):
     if refusal is not None:
         raise Problem(refused(arguments.sheet, refusal))
     if measured is None and header_of(sheet).items > 0:
-        note("target/bin/station_items is missing: 'rt check station_items' makes it, and 'show' then has the items' boxes, next positions and "
+        note("target/bin/station_items is missing: 'tools/build.sh station_items' makes it, and 'show' then has the items' boxes, next positions and "
              "numbers of replaced characters")
 
 

@@ -34,7 +34,7 @@ def run(name, given):
 def drawn_page(sheet):
     """The page of a sheet that is accepted."""
     if not is_there("station_page"):
-        raise Problem("target/bin/station_page is missing: make it with 'rt check station_page', or give a page with --page", 2)
+        raise Problem("target/bin/station_page is missing: make it with 'tools/build.sh station_page', or give a page with --page", 2)
     return run("station_page", sheet)
 
 
@@ -55,7 +55,7 @@ def measured_items(sheet, count):
 def made_list(sheet, entries, count):
     """The reply to a list of so many edits on a sheet that is accepted, and the edited sheet; no bytes if an edit is refused."""
     if not is_there("station_edits"):
-        raise Problem("target/bin/station_edits is missing: make it with 'rt check station_edits'", 2)
+        raise Problem("target/bin/station_edits is missing: make it with 'tools/build.sh station_edits'", 2)
     line, _, edited = run("station_edits", struct.pack("<I", len(sheet)) + sheet + entries).partition(b"\n")
     numbers = re.fullmatch(rb"(\d+) (\d+) (-?\d+) (-?\d+) (\d+) (\d+)", line)
     reply = Batch(*map(int, numbers.groups())) if numbers else None

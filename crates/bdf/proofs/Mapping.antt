@@ -1,4 +1,4 @@
--- A mapping that spells characters that rise: it is well_formed_lem, lists them in order, and gives each the index of its glyph. Assumes nothing.
+-- A mapping that spells characters that rise: it is well-formed, lists them in order, and gives each the index of its glyph. Assumes nothing.
 use Prim.Native.Nat.{ℕ, zero, suc, ◌+◌, ◌*◌, ◌/◌, ◌%◌, ◌<◌, ◌≤◌}
 use mathlib.Core.Path.{◌≡◌, refl, ◌∙◌, ap}
 use mathlib.Core.Bool.{Bool, true, false, not, cond, ◌&&◌, and-eq-true_iff}

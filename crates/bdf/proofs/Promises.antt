@@ -21,7 +21,7 @@ use Rattle.bdf.proofs.Written.{length_mapping, atlas_length_lem}
 use Rattle.bdf.proofs.Fonts.{atlas_small}
 
 pub record Promises (f : BdfFont) : Type 0 where
-  -- the mapping is well_formed_lem, spells the encodings in file order, and the index of encoding k is k
+  -- the mapping is well-formed, spells the encodings in file order, and the index of encoding k is k
   pub well : well_formed (mapping_of f) ≡ true
   pub spelled : mapping.list_of (mapping_of f) ≡ encodings f.glyphs
   pub indexed : (replacement k : ℕ) → k < glyph_count f.glyphs → mapping.index (mapping_of f) replacement (glyph_at f.glyphs k).encoding ≡ k

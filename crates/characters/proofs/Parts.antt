@@ -1,4 +1,4 @@
--- A text that is put together of two, where no sequence goes across the seam: after a well_formed_lem text, whose last sequence ends there, and
+-- A text that is put together of two, where no sequence goes across the seam: after a well-formed text, whose last sequence ends there, and
 -- before a byte below 80, which continues none. Assumes nothing.
 use mathlib.Core.Path.{◌≡◌, refl, sym, ◌∙◌, ap}
 use mathlib.Core.Bool.{Bool, true, false, cond, ◌&&◌, and-eq-true_iff, false≢true, true≢false, and-false}
@@ -51,7 +51,7 @@ module _ (a b : List ℕ) (at : ℕ) (h : at < length a) where
       rw (lt-ltb at (length (a ++ b)) (omega arith), lt-ltb at (length a) h, get_or-append a b 0 at h)
       (elim (dec_lt (length a - at) (leading_ones (get_or a at 0))) [ yes l ↦ cut l | no l ↦ sequence-fits (leading_ones (get_or a at 0)) (omega arith) ])
 
-  -- in a well_formed_lem text no sequence is cut
+  -- in a well-formed text no sequence is cut
   step-well-formed : well_formed_from a at ≡ true → step_at (a ++ b) at ≡ step_at a at
   unfolding well_formed_from step_at
   step-well-formed w = step-before (λ l. absurd (true≢false (sym w ∙ fold_ill_formed (λ ch rest. rest) false true a at refl (rw (lt-ltb at (length a) h) (cut-here (leading_ones (get_or a at 0)) (λ z. omega arith) l)))))

@@ -1,4 +1,4 @@
--- UTF-8 by RFC 3629: what stands at a position of a list of bytes, the characters of a text, and whether it is well_formed_lem.
+-- UTF-8 by RFC 3629: what stands at a position of a list of bytes, the characters of a text, and whether it is well-formed.
 -- Assumes nothing.
 -- To be believed: it says what a sheet means.
 use Rattle.std.specs.Prelude.{ℕ, zero, suc, ◌+◌, ◌-◌, ◌*◌, ◌%◌, List, [], ◌∷◌, Bool, true, false, not, cond, ◌&&◌, length, get_or, ltb, leb, eqb}

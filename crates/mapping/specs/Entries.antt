@@ -68,12 +68,12 @@ stop_refusal (entry.Range start end c) count = 7
 stop_refusal entry.IllFormed count = 7
 stop_refusal entry.End count = need (leb count 65_536) 8 0
 
--- a position of a mapping from which the rest is well_formed_lem
+-- a position of a mapping from which the rest is well-formed
 pub record ListFrom (mapping : List ℕ) (at : ℕ) : Type 0 where
   pub within : at ≤ length mapping
   pub well : well_formed_from mapping at ≡ true
 
--- what refusals 7 and 8 leave: a well_formed_lem mapping that "spells ≤ 65,536 characters"
+-- what refusals 7 and 8 leave: a well-formed mapping that "spells ≤ 65,536 characters"
 pub record WithinLimit (mapping : List ℕ) : Type 0 where
   pub well : well_formed mapping ≡ true
   pub spelled : length (list_of mapping) ≤ 65_536

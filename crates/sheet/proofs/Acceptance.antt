@@ -238,7 +238,7 @@ conforming_accepted b g = rw (
   none_refused (font_refusal b) (Fields.font_count b) 0 (λ k l. font-passes b (Fields.font_at k) (g.font-fits k (omega arith))),
 ) (none_refused (item_refusal b) (Fields.item_count b) 0 (λ j l. item_passes b (Fields.item_at b j) (g.item-fits j (omega arith))))
 
--- demand 2 (docs/DEMANDS.md): "a sheet is accepted exactly when it meets document 01's layout and limits and its texts and mappings are well_formed_lem UTF-8"
+-- demand 2 (docs/DEMANDS.md): "a sheet is accepted exactly when it meets document 01's layout and limits and its texts and mappings are well-formed UTF-8"
 pub accepted_exactly_when : (b : List ℕ) → (check b ≡ 0) ↔ Conforming b
 accepted_exactly_when b = (conforming b, conforming_accepted b)
 

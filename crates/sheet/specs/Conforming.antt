@@ -75,7 +75,7 @@ pub record ItemFits (b : List ℕ) (o : ℕ) : Type 0 where
   -- not "text ill-formed"
   pub text_well : well_formed (Fields.text_bytes b o) ≡ true
 
--- a sheet that meets the layout and limits of docs/SHEET.md (Sheet), its texts and mappings well_formed_lem
+-- a sheet that meets the layout and limits of docs/SHEET.md (Sheet), its texts and mappings well-formed
 pub record Conforming (b : List ℕ) : Type 0 where
   pub headed : Headed b
   -- "offset of fonts = 24 (4), of items = 24 + 28 × F (4)"

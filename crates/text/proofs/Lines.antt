@@ -1,4 +1,4 @@
--- The lines of a text, with the feeds put back between them, are the text; those of a well_formed_lem text are well_formed_lem, and their
+-- The lines of a text, with the feeds put back between them, are the text; those of a well-formed text are well-formed, and their
 -- characters are the text's characters between feeds. Assumes nothing.
 use Prim.Native.Nat.{ℕ}
 use native.Mathlib.Omega.{arith}
@@ -17,7 +17,7 @@ joined [] = []
 joined (l ∷ []) = l
 joined (l ∷ k ∷ ls) = l ++ (0x0A ∷ joined (k ∷ ls))
 
--- every one of some lines is well_formed_lem
+-- every one of some lines is well-formed
 abbrev pub WellFormed : List (List ℕ) → Type 0
 WellFormed [] = Unit {0}
 WellFormed (l ∷ ls) = (well_formed l ≡ true) × WellFormed ls
@@ -47,7 +47,7 @@ chars_nil : chars [] ≡ []
 unfolding chars_from fold_at fold_by step_at
 chars_nil = refl
 
--- a text of lines that is well_formed_lem
+-- a text of lines that is well-formed
 parts : (ls : List (List ℕ)) → well_formed (joined ls) ≡ true → WellFormed ls × (chars (joined ls) ≡ joined (map chars ls))
 parts [] w = (tt, chars_nil)
 parts (l ∷ []) w = ((w, tt), refl)

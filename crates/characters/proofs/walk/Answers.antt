@@ -1,4 +1,4 @@
--- The invariant: the rest is well_formed_lem if and only if the text is. Each step goes forward. Assumes nothing.
+-- The invariant: the rest is well-formed if and only if the text is. Each step goes forward. Assumes nothing.
 use borrow.Author.Rules.{rules}
 use Rattle.characters.proofs.Ascii.{ascii_head}
 use Rattle.characters.proofs.Walks.{step-within, step_less, walk_again, walk_stopped, walk_past}

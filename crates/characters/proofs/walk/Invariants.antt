@@ -1,4 +1,4 @@
--- The invariant: the rest is well_formed_lem if and only if the text is. Each step goes forward. Assumes nothing.
+-- The invariant: the rest is well-formed if and only if the text is. Each step goes forward. Assumes nothing.
 use mathlib.Core.Path.{◌≡◌}
 use Prim.Native.Nat.{◌≤◌, ◌-◌}
 use lib.ListN.{length}

@@ -1,4 +1,4 @@
--- The invariant: what is counted and the rest make up the whole, up to one past the limit, and the rest is well_formed_lem if and only if the
+-- The invariant: what is counted and the rest make up the whole, up to one past the limit, and the rest is well-formed if and only if the
 -- whole is. Assumes nothing.
 use borrow.Author.Rules.{rules}
 use Rattle.mapping.proofs.Places.{entry_within, entry_less, count_fits, walk_again, count_again, check_stopped}

@@ -1,4 +1,4 @@
--- The invariant: what is counted and the rest make up the whole, up to one past the limit, and the rest is well_formed_lem if and only if the
+-- The invariant: what is counted and the rest make up the whole, up to one past the limit, and the rest is well-formed if and only if the
 -- whole is. Assumes nothing.
 use mathlib.Core.Path.{◌≡◌}
 use Prim.Native.Nat.{◌≤◌, ◌+◌, ◌-◌, min}
