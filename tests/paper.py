@@ -151,7 +151,7 @@ def names():
 # ---- byte tables
 
 FIELD_COLUMNS = ["offset", "size", "field", "definition", "meaning", "must be", "else"]
-WIDTHS = {"u8": 1, "byteAt": 1, "u16": 2, "le16At": 2, "u32": 4, "le32At": 4}
+WIDTHS = {"u8": 1, "byte_at": 1, "u16": 2, "le16_at": 2, "u32": 4, "le32_at": 4}
 TOOL_NAMES = {"frame width": "width", "frame height": "height", "paper grey": "paper", "fonts offset": "fonts_at", "items offset": "items_at",
               "whole length": "length", "atlas offset": "atlas_at", "mapping offset": "mapping_at", "replacement index": "replacement",
               "cell width": "cw", "cell height": "ch", "spacing": "s", "slot offset": "slot_at", "font number": "font"}
@@ -212,11 +212,11 @@ def stored_numbers():
 def parts():
     """Each offset as a formula; the order of the pieces is that of a sheet of two fonts and two items."""
     source = read("crates/sheet/specs/Fields.antt")
-    at = {name: formula for name, formula in re.findall(r"^(fontAt|itemAt|piecesAt)(?: \w)* = (.*)$", source, re.M)}
-    items = at["itemAt"].replace(" * ", " × ").replace("fontCount b", "F")
-    bad = differences(at["piecesAt"], "itemAt b (itemCount b)", "piecesAt: ")
+    at = {name: formula for name, formula in re.findall(r"^(font_at|item_at|pieces_at)(?: \w)* = (.*)$", source, re.M)}
+    items = at["item_at"].replace(" * ", " × ").replace("font_count b", "F")
+    bad = differences(at["pieces_at"], "item_at b (item_count b)", "pieces_at: ")
     rows = table("Sheet", ["part", "offset", "size"])
-    wanted = [["header", "0", str(layout.HEADER_SIZE)], ["font record k", re.sub(r"\bn\b", "k", at["fontAt"].replace(" * ", " × ")), str(layout.FONT_SIZE)],
+    wanted = [["header", "0", str(layout.HEADER_SIZE)], ["font record k", re.sub(r"\bn\b", "k", at["font_at"].replace(" * ", " × ")), str(layout.FONT_SIZE)],
               ["item record j", re.sub(r"\bn\b", "j", items), str(layout.ITEM_SIZE)], [re.sub(r"\bn\b", "I", items), "up to the end"]]
     bad += differences([*rows[:3], rows[3][1:]], wanted)
     for name, offset, _ in rows:
@@ -292,8 +292,8 @@ def tool_codes(field):
 
 # how crates/records/specs/Records.antt names the codes, in their order
 DEFINED_COLORS = {grey: ["Unset", "Set"], decoration: ["None", "TextColor", "Custom"]}
-DEFINED_NAMES = {"optionalGrey": DEFINED_COLORS[grey], "decorationColor": DEFINED_COLORS[decoration], "alignment": ["Left", "Center", "Right"],
-                 "baseline": ["Top", "Bottom", "Middle", "Alphabetic"], "lineHeight": ["Pixels", "Percent"]}
+DEFINED_NAMES = {"optional_grey": DEFINED_COLORS[grey], "decoration_color": DEFINED_COLORS[decoration], "alignment": ["Left", "Center", "Right"],
+                 "baseline": ["Top", "Bottom", "Middle", "Alphabetic"], "line_height": ["Pixels", "Percent"]}
 
 
 @test("the codes of the item's fields are those of the tools and of crates/records/specs/Records.antt")
@@ -346,7 +346,7 @@ DEFINED_LIMITS = {
     "cell height": (LIMITS, "ch", "MOST_CELL"),
     "spacing": (LIMITS, "s|spacing", "MOST_CELL"),
     "atlas width": (LIMITS, "atlas_width|width", "MOST_ATLAS_WIDTH"),
-    "characters that a mapping spells": (MAPPING, r"\(length \(listOf mapping\)\)", "MOST_SPELLED"),
+    "characters that a mapping spells": (MAPPING, r"\(length \(list_of mapping\)\)", "MOST_SPELLED"),
     "slot size": (LIMITS, "slot|slot_size", "MOST_SLOT"),
     "height value": (LIMITS, "value|height_value", "MOST_HEIGHT"),
     "whitespace": (CALLS, "width", None),
@@ -357,7 +357,7 @@ DEFINED_CODES = {"text mode": "text", "background mode": "background", "underlin
 
 def tested(path, names):
     """The least and the most that is tested of the first of the names that has a most; a field of a record counts by its name."""
-    source = re.sub(r"\b\w \.«?(\w+)»?", r"\1", read(path))
+    source = re.sub(r"\b\w\.(\w+)", r"\1", read(path))
     source = re.sub(r"\((\w+)\)", r"\1", source)
     for name in names.split("|"):
         most = {integer(n) for n in re.findall(rf"\bleb {name} (\d[\d_]*)", source)}
@@ -374,7 +374,7 @@ def limits_as_defined():
         limit = rows.pop(name, None)
         bad += differences(limit and (0 if "×" in name else limit[0], limit[1]), tested(path, how), f"{name}: ")
     edits = read(EDITS)
-    places = [integer(n) for n in re.findall(r"^inRange \((?:pos|negsuc) n\) = ltb n (\S+)$", edits, re.M)]
+    places = [integer(n) for n in re.findall(r"^in_range \((?:pos|negsuc) n\) = ltb n (\S+)$", edits, re.M)]
     style = [integer(n) for n in re.findall(r"eqb \(length t\) (\d+)", edits)]
     bad += differences(rows, {"new x or y": (-places[1], places[0] - 1), "bytes of a new style": (style[0], style[0])})
     for row in rows_of(2):
@@ -410,11 +410,11 @@ def bdf_limits():
 def limits_of_bdf():
     source = read(READER)
     origin = integer(re.search(r"^origin = (\S+)$", source, re.M)[1])
-    sides = {integer(n) for n in re.findall(r"leb \([wh] \.size\) (\S+)", source)}
+    sides = {integer(n) for n in re.findall(r"leb [wh]\.size (\S+)", source)}
     tested_ = {"side of the cell": (0, *sides), "offset of the cell or of a BBX": (-origin, origin),
                "baseline": (0, integer(re.search(r"leb \(baseline .*?\)\) (\S+)", source)[1])),
-               "bytes of the mapping": (0, integer(re.search(r"leb \(r \.mapping \+ .*?\)\) ([\d_]+)", source)[1])),
-               "encoding": (0, int(re.search(r"leb \(n \.size\) 0x([0-9A-F]+)", source)[1], 16))}
+               "bytes of the mapping": (0, integer(re.search(r"leb \(r\.mapping \+ .*?\)\) ([\d_]+)", source)[1])),
+               "encoding": (0, int(re.search(r"leb n\.size 0x([0-9A-F]+)", source)[1], 16))}
     limits = {name: tuple(map(integer, pair)) for name, pair in bdf_limits().items()}
     tools = {"side of the cell": layout.MOST_CELL, "offset of the cell or of a BBX": bdf.MOST_OFFSET, "baseline": bdf.MOST_BASELINE,
              "bytes of the mapping": bdf.MOST_MAPPING}
