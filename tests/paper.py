@@ -677,8 +677,8 @@ def believed():
         if len(marks) != 1 or marks[0].startswith("-- To be believed") != (path in named):
             bad.append(f"{path}: its head and TRUST do not agree")
         if path in named:
-            bad += [f"{path} uses {crate}/specs/{name}" for crate, name in re.findall(r"^use Rattle·(\w+?)(?:·specs)?\.specs\.(\w+)", source, re.M)
-                    if name != "declared" and f"crates/{crate}/specs/{name}.antt" not in named]
+            bad += [f"{path} uses {crate}/specs/{name}" for crate, name in re.findall(r"^use Rattle\.(\w+)\.specs\.(\w+)", source, re.M)
+                    if crate != "std" and name != "declared" and f"crates/{crate}/specs/{name}.antt" not in named]
     return bad + [f"{path} is not there" for path in sorted(named) if not os.path.exists(path)]
 
 
