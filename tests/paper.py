@@ -562,6 +562,15 @@ def paper_calls():
     return {row[0].strip("`"): row[1:] for row in table("Replies and refusals", columns)}
 
 
+@test("each export has the parameters and clauses of the call that it hands on")
+def exports_as_calls():
+    def signed(crate):
+        found = re.findall(r'pub (?:extern "C" )?fn (station_\w+)\(([^)]*)\) -> (\w+)\n((?:    ensures .*\n)+)\{', read(f"crates/{crate}/src/lib.rt"))
+        return [[" ".join(part.split()).rstrip(",") for part in call] for call in found]
+    calls, exports = signed("station"), signed("station_c")
+    return differences(exports, calls) + differences(sorted(call[0] for call in calls), sorted(paper_calls()), "calls: ")
+
+
 @test("the calls, their arguments, own tests and replies are those of the library and its header")
 def calls_as_declared():
     paper, header = paper_calls(), read("include/station.h")

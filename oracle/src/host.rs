@@ -1,4 +1,4 @@
-//! The exported calls of `libstation.a`, as `crates/station/src/lib.rt` exports them: a slice is a pointer
+//! The exported calls of `libstation.a`, as `crates/station_c/src/lib.rt` exports them: a slice is a pointer
 //! and then its length.
 
 use oracle::reply::{Area, Batch, Drawn, Edit, Glyph, Number, Position, Station, Step};
