@@ -4,8 +4,8 @@
 #   tests/bdf.sh [FOLDER]
 #
 # FOLDER has the real fonts (.bdf); without it ../shared/tools/real-bdf fetches some from Debian's packages, once, to target/bdf/fonts. read_bdf
-# and the archive are made if they are missing, which proves what they need; FreeType and a C compiler are installed if they are missing and that
-# is possible. Where the fonts or FreeType cannot be had, a line that begins with 'skipped:' says so, and the other tests are made. Each test
+# and the archive are made if they are missing or older than the crates, which proves what they need; FreeType and a C compiler are installed if they
+# are missing and that is possible. Where the fonts or FreeType cannot be had, a line that begins with 'skipped:' says so, and the other tests are made. Each test
 # prints 'ok NAME' or 'FAILED NAME'; the last line is 'N passed, M failed', and the exit status is 1 if one failed.
 set -uo pipefail
 folder=${1:+$(cd "$1" && pwd)} || exit 2
@@ -35,7 +35,7 @@ make_freetype() {
 
 # The measurement beside FreeType reads the sample's font once.
 run_bench() {
-  [ -f "$archive" ] || tools/build.sh library || return
+  tools/build.sh library || return
   with_freetype -Iinclude bench/bdf.c "$archive" -o "$out/bench" &&
     "$out/bench" samples/fonts/georgian-9x18.bdf 1 | tee "$out/times" && grep -q '^ratio ' "$out/times"
 }
@@ -46,8 +46,7 @@ fetch_fonts() {
 }
 
 mkdir -p "$out"
-[ -x target/bin/read_bdf ] || tools/build.sh read_bdf >"$out/log" 2>&1
-if ! [ -x target/bin/read_bdf ]; then
+if ! tools/build.sh read_bdf >"$out/log" 2>&1 || ! [ -x target/bin/read_bdf ]; then
   echo "FAILED read_bdf: 'tools/build.sh read_bdf' does not make it"
   echo '0 passed, 1 failed'
   exit 1
@@ -75,7 +74,7 @@ fi
 
 # The program for files of any length.
 make_read_font() {
-  [ -f "$archive" ] || tools/build.sh library || return
+  tools/build.sh library || return
   cc "${flags[@]}" -Iinclude tests/host/read_font.c "$archive" -o "$out/read_font"
 }
 

@@ -114,7 +114,7 @@ def test_bdf_without_fonts(folder):
 
 def test_paper_without_git(folder):
     """In a tree that git knows nothing of, and where there is no git: all files are looked at."""
-    shutil.copytree(ROOT, folder / "tree", ignore=shutil.ignore_patterns(".*", "target", "__pycache__"))
+    shutil.copytree(ROOT, folder / "tree", ignore=shutil.ignore_patterns(".*", "target", "out", "__pycache__"))
     for name in ("bash", "dirname", "python3"):
         (folder / "bin").mkdir(exist_ok=True)
         (folder / "bin" / name).symlink_to(shutil.which(name))

@@ -5,8 +5,8 @@
 #   tests/host.sh
 #
 # Each test prints 'ok NAME' or 'FAILED NAME'; the last line is 'N passed, M failed', and the exit status is 1 if one failed. A compiler that
-# is missing is installed if that is possible. The archive is made if it is missing or older than the crates, and station_page, read_bdf
-# and station_edits if they are missing.
+# is missing is installed if that is possible. The archive, station_page, read_bdf and station_edits are made if they are missing or older
+# than the crates.
 set -uo pipefail
 cd "$(dirname "$0")/.."
 
@@ -48,13 +48,11 @@ has_compiler() {
 }
 
 make_archive() {
-  if [ ! -f "$archive" ] || [ -n "$(find crates crates.txt -newer "$archive" \( -name '*.rt' -o -name crates.txt \) -print -quit)" ]; then
-    tools/build.sh library
-  fi
+  tools/build.sh library
 }
 
 make_program() {
-  [ -x "target/bin/$1" ] || tools/build.sh "$1"
+  tools/build.sh "$1"
 }
 
 # header COMPILER STANDARD LANGUAGE: the header alone, and twice, without a warning.

@@ -48,11 +48,11 @@ run_test() {
 }
 
 make_library() {
-  [ -f target/staticlib/libstation.a ] || tools/build.sh library
+  tools/build.sh library
 }
 
 make_program() {
-  [ -x target/bin/oracle_list ] || tools/build.sh oracle_list
+  tools/build.sh oracle_list
 }
 
 make_list_again() {

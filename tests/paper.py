@@ -1206,14 +1206,14 @@ def tracked():
 
 def walked():
     for folder, folders, files in os.walk("."):
-        folders[:] = [name for name in folders if not name.startswith((".", "__")) and os.path.join(folder, name) != "./target"]
+        folders[:] = [name for name in folders if not name.startswith((".", "__")) and name != "out" and os.path.join(folder, name) != "./target"]
         yield from (os.path.relpath(os.path.join(folder, name)) for name in files)
 
 
 @test("the files are found without git too")
 def found_without_git():
     missing = {path for path in tracked() if not path.startswith(".")} - set(walked())
-    return sorted(missing) + [path for path in walked() if path.startswith(("target/", ".git/"))]
+    return sorted(missing) + [path for path in walked() if path.startswith(("target/", ".git/")) or "/out/" in path]
 
 
 @test("every section of the paper that a file names is there")
