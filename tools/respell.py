@@ -4,7 +4,8 @@ where it joins the names of two definitions. Run once, at the top, directly afte
 
     python3 tools/respell.py
 
-Names of functions in src/, exported names, strings, inputs and outputs are not touched. It stops where two names would fall together.
+Names of functions in src/, exported names, strings, inputs and outputs are not touched. It stops where two names would fall together, and else prints
+each name with its new spelling, and where the new one stood in a file already ('look:').
 """
 import collections
 import glob
@@ -132,11 +133,10 @@ def main():
                 clashes.append((p, sorted(both)))
         if new != text:
             open(p, "w", encoding="utf-8").write(new)
-    with open("/tmp/respelled.tsv", "w") as f:
-        f.writelines(f"{n}\t{t}\n" for n, t in sorted(names.items()))
+    for n, t in sorted(names.items()):
+        print(n, t, sep="\t")
     for p, both in clashes:
         print("look:", p, *both)
-    print(len(names), "names")
 
 
 if __name__ == "__main__":
