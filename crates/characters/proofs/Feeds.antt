@@ -1,6 +1,7 @@
 -- The lines of a text, found one by one between two line feeds, a line without its return, and a text of one line. Assumes nothing.
-use Prim.Native.Nat.{ℕ, zero, suc, ◌+◌, ◌-◌, ◌≤◌, ◌<◌}
+use Prim.Native.Nat.{ℕ, zero, suc, max, ◌+◌, ◌-◌, ◌≤◌, ◌<◌}
 use native.Mathlib.Omega.{arith}
+use native.Mathlib.Decide.{dec_le}
 use native.Mathlib.Numerals.{add-one}
 use mathlib.Core.Path.{◌≡◌, refl, sym, ap, ◌∙◌}
 use mathlib.Core.Bool.{Bool, true, false, cond}
@@ -35,6 +36,15 @@ module _ (text : List ℕ) (i : ℕ) where
 
     pub end_past : length text ≤ i → i ≡ end
     end_past h = omega (arith, past-text h)
+
+-- where the turns from a position on meet no feed, the line ends with the text, or is empty past it
+pub end_last : (text : List ℕ) (from i : ℕ) → from ≤ i → (from ≤ length text → i ≤ length text) → length text ≤ i
+    → i + line_length (drop i text) ≡ from + line_length (drop from text) → max from (length text) ≡ from + line_length (drop from text)
+end_last text from i f w h inv =
+    elim (dec_le from (length text)) [
+      | yes l ↦ let e = end_past text i _ inv h in let b = w l in omega arith
+      | no n ↦ omega (arith, past-text text from (omega arith))
+    ]
 
 -- ---- a line, and the lines after it
 

@@ -1,4 +1,5 @@
 pub mod Ascii
+pub mod Drained
 pub mod Feeds
 pub mod Folds
 pub mod LeadingOnes

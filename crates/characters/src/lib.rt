@@ -2,27 +2,37 @@
 #![tactic(auto)]
 
 ghost use Rattle.std.specs.Prelude.{◌≡◌, length};
+ghost use Rattle.std.specs.Iterator.{YieldsFirst, item_count};
+ghost use Rattle.refusals.specs.Numbers.{number, refusal_of};
 ghost use Rattle.characters.specs.Refusal.{need};
 ghost use Rattle.characters.specs.Utf8.{leading_ones, is_continuation, is_surrogate, scalar, two, three, four, step_at, chars, well_formed};
 ghost use Rattle.characters.specs.Ascii.{ascii_length};
+ghost use Rattle.characters.specs.Characters.{chars_left};
 
-use numbers::wide;
+use refusals::Refusal;
 
 pub mod lines;
 pub mod walker;
 
 // A position in a text: the offset of its next byte.
-#[derive(Clone, Copy)]
+#[derive(Clone, Copy, Debug, PartialEq, Eq)]
 pub struct Cursor {
     pub at: usize,
 }
 
 // What stands at a position: a character and the position after it, a sequence that RFC 3629 does not allow, or the end.
-#[derive(Clone, Copy)]
+#[derive(Clone, Copy, Debug, PartialEq, Eq)]
 pub enum Step {
     Character(u32, Cursor),
     IllFormed,
     End,
+}
+
+// The characters of a text from a position on, up to its end or to what is ill-formed.
+#[derive(Clone, Copy)]
+pub struct Characters<'a> {
+    text: &'a [u8],
+    cursor: Cursor,
 }
 
 // The ones at the head of a lead byte: the length of its sequence, or 0 for a byte that stands alone.
@@ -105,7 +115,7 @@ pub fn next(s: &[u8], c: Cursor) -> Step
     let lead = s[at];
     let n = leading_ones(lead);
     if n == 0 {
-        return Step::Character(wide(lead), Cursor { at: at + 1 });
+        return Step::Character(u32::from(lead), Cursor { at: at + 1 });
     }
     let left = size - at;
     if left < n as usize {
@@ -127,43 +137,65 @@ pub fn next(s: &[u8], c: Cursor) -> Step
 fn ascii_length(s: &[u8]) -> usize
     ensures { result ≡ ascii_length s.now }
 {
-    let mut at = 0;
-    while at < s.len() {
+    for at in 0..s.len() {
         if 0x80 <= s[at] {
             return at;
         }
-        at += 1;
     }
-    at
+    s.len()
 }
 
-// 0 for a well-formed text, else the refusal.
-pub fn walk(s: &[u8], refusal: u32) -> u32
-    ensures { result ≡ need (well_formed s.now) refusal 0 }
+// Whether a text is well-formed; the refusal if it is not.
+// A loop, since the iterator's end does not tell the text's end from what is ill-formed.
+pub fn walk(s: &[u8], refusal: Refusal) -> Result<(), Refusal>
+    ensures { refusal_of result ≡ need (well_formed s.now) (number refusal) 0 }
 {
     let mut c = Cursor {
         at: ascii_length(s),
     };
     while c.at < s.len() {
         let Step::Character(_, after) = next(s, c) else {
-            return refusal;
+            return Err(refusal);
         };
         c = after;
     }
-    0
+    Ok(())
+}
+
+// The characters of a text.
+pub fn chars(text: &[u8]) -> Characters<'_>
+    ensures { chars_left result ≡ chars text.now }
+{
+    Characters {
+        text,
+        cursor: Cursor { at: 0 },
+    }
+}
+
+impl<'a> Iterator for Characters<'a> {
+    type Item = u32;
+
+    ghost next_gives = { YieldsFirst chars_left };
+
+    ghost remaining = { item_count chars_left };
+
+    fn next(&mut self) -> Option<u32> {
+        let Step::Character(ch, after) = next(self.text, self.cursor) else {
+            return None;
+        };
+        self.cursor = after;
+        Some(ch)
+    }
 }
 
 // How many characters stand before the end, or before what is ill-formed.
 pub fn count(s: &[u8]) -> usize
     ensures { result ≡ length (chars s.now) }
 {
-    let mut n = ascii_length(s);
-    let mut c = Cursor { at: n };
-    loop {
-        let Step::Character(_, after) = next(s, c) else {
-            return n;
-        };
-        n += 1;
-        c = after;
-    }
+    let n = ascii_length(s);
+    let rest = Characters {
+        text: s,
+        cursor: Cursor { at: n },
+    };
+    n + rest.count()
 }

@@ -6,14 +6,12 @@ ghost use Rattle.characters.specs.Lines.{line_length, without_return};
 pub fn line_end(text: &[u8], from: usize) -> usize
     ensures { result ≡ from + line_length (drop from text.now) }
 {
-    let mut i = from;
-    while i < text.len() {
+    for i in from..text.len() {
         if text[i] == 0x0A {
             return i;
         }
-        i += 1;
     }
-    i
+    from.max(text.len())
 }
 
 // A line without one trailing return.
@@ -21,13 +19,8 @@ pub fn without_return(line: &[u8]) -> &[u8]
     ensures result_value { result.now ≡ without_return line.now }
     ensures result_in_bounds { length result.now ≤ length line.now }
 {
-    let n = line.len();
-    if n == 0 {
-        return line;
+    match line {
+        [shorter @ .., 0x0D] => shorter,
+        _ => line,
     }
-    let end = n - 1;
-    if line[end] == 0x0D {
-        return &line[..end];
-    }
-    line
 }

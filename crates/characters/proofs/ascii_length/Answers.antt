@@ -1,5 +1,6 @@
 -- The invariant: the bytes passed are below 80, and the bytes below 80 that lead the rest make up the whole. Assumes nothing.
 use borrow.Author.Rules.{rules}
+use native.Mathlib.Omega.{arith}
 use Rattle.characters.proofs.Ascii.{ascii_start, ascii_more, ascii_above, ascii_past}
 use Rattle.characters.proofs.ascii_length.Goals as goal
 
@@ -13,4 +14,4 @@ pub loop-at-preserved : goal.loop-at-preserved
 loop-at-preserved c = (search rules, search ascii_more)
 
 pub returns : goal.returns
-returns c = search ascii_past
+returns c = let e = ascii_past c.args.s.now c.loop-at.at c.loop-at.invariant.1 c.loop-at-test.false in omega arith

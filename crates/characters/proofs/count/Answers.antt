@@ -1,17 +1,27 @@
--- The invariant: what is counted and what is still to come make up the whole. Each step goes forward. Assumes nothing.
-use borrow.Author.Rules.{rules}
+-- `count` meets its contract: the leading bytes below 80 and the characters after them make up the whole. Assumes nothing.
+use mathlib.Core.Logic.{inl}
+use mathlib.Core.Path.{ap}
+use native.Mathlib.Omega.{arith}
+use lib.ListN.{length}
 use Rattle.characters.proofs.Ascii.{ascii_head}
-use Rattle.characters.proofs.Walks.{step-within, step_less, count_again, count_below, count_stopped}
+use Rattle.characters.proofs.Drained.{drained}
+use Rattle.characters.proofs.Folds.{length-chars_from}
 use Rattle.characters.proofs.count.Goals as goal
 
-pub loop-after-init : goal.loop-after-init
-loop-after-init c = let h = ascii_head _ _ c.ascii_length-n.ensures in search rules
+pub count-requires-clause-fits : goal.count-requires-clause-fits
+count-requires-clause-fits c = let l = length-chars_from c.args.s.now c.ascii_length-n.result in inl (omega arith)
 
-pub returns-in_default : goal.returns-in_default
-returns-in_default c = search (count_stopped, c.in_default.not-Character)
+pub overflow_add-result : goal.overflow_add-result
+overflow_add-result c =
+    let h = ascii_head _ _ c.ascii_length-n.ensures in
+    let l = length-chars_from c.args.s.now c.ascii_length-n.result in
+    let (xs, d, e) = c.count.ensures.ran in
+    let q = ap length (drained xs _ d) in
+    omega arith
 
-pub loop-after-smaller : goal.loop-after-smaller
-loop-after-smaller c = search step_less
-
-pub loop-after-preserved : goal.loop-after-preserved
-loop-after-preserved c = (search count_below, search step-within, search count_again)
+pub returns : goal.returns
+returns c =
+    let h = ascii_head _ _ c.ascii_length-n.ensures in
+    let (xs, d, e) = c.count.ensures.ran in
+    let q = ap length (drained xs _ d) in
+    omega (arith, h.counted)
