@@ -28,18 +28,6 @@ pub fn page_length(frame: &[u8], w: usize, h: usize) -> usize
     9 + width + height + frame.len()
 }
 
-// Copies the bytes to a part of as many.
-fn copy_from_slice(part: &mut [u8], bytes: &[u8])
-    requires { length part.old ≡ length bytes.now }
-    ensures { part.new ≡ bytes.now }
-{
-    let mut i = 0;
-    while i < part.len() {
-        part[i] = bytes[i];
-        i += 1;
-    }
-}
-
 // Stores the bytes from an offset on, and gives the offset after them.
 fn write_bytes(output: &mut [u8], at: usize, bytes: &[u8]) -> usize
     requires { at + length bytes.now ≤ length output.old }
@@ -47,7 +35,7 @@ fn write_bytes(output: &mut [u8], at: usize, bytes: &[u8]) -> usize
     ensures value { result ≡ at + length bytes.now }
 {
     let end = at + bytes.len();
-    copy_from_slice(&mut output[at..end], bytes);
+    output[at..end].copy_from_slice(bytes);
     end
 }
 
