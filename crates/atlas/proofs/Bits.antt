@@ -15,7 +15,7 @@ use mir.Syntax.{w8, w64}
 use mir.Val.{Fits}
 use borrow.Author.Tests.{lt-ltb, le-ltb}
 use borrow.Rule.Slice.PartMut.{put_mid}
-use Rattle.geometry.specs.declared.OptionalGrey.{OptionalGrey}
+use Rattle.std.specs.Prelude.{Option}
 use Rattle.geometry.specs.Layer.{map_indexed}
 use Rattle.geometry.proofs.Rows.{FirstPainted, row_start, row_part, row_end}
 use Rattle.atlas.specs.Atlas.{is_on}
@@ -106,12 +106,12 @@ module _ (bytes : List ℕ) (small : (k : ℕ) → Fits w8 (get_or bytes k 0)) (
       lower-bit (get_or bytes (y * stride + x / 8) 0) next x next_small i h u ∙ rw (q, lt-ltb (x / 8 + 1) stride (omega arith)))
       (lt_or_le (x % 8 + i) 8)
 
-  pub bit_row_lem : (text background : OptionalGrey) (i grey : ℕ) → i < 8 → x + i < 8 * stride → bit_row (bits_at bytes stride x y) text background i grey ≡ image_row bytes stride y text background (x + i) grey
+  pub bit_row_lem : (text background : Option ℕ) (i grey : ℕ) → i < 8 → x + i < 8 * stride → bit_row (bits_at bytes stride x y) text background i grey ≡ image_row bytes stride y text background (x + i) grey
   unfolding bit_row image_row is_on
   bit_row_lem text background i grey h r = ap (λ (n : ℕ). blend (eqb n 1) text background grey) (bit-is-pixel i h r)
 
 -- a row of just k pixels, drawn as a part of itself
-pub whole_part : (k bits : ℕ) (text background : OptionalGrey) (xs part : List ℕ) → length xs ≡ k
+pub whole_part : (k bits : ℕ) (text background : Option ℕ) (xs part : List ℕ) → length xs ≡ k
     → part ≡ map_indexed (bit_row bits text background) 0 (take (k - 0) (drop 0 xs)) → put_mid 0 (k - 0) xs part ≡ map_indexed (bit_row bits text background) 0 xs
 whole_part k bits text background xs part n e =
     let p =
@@ -119,8 +119,12 @@ whole_part k bits text background xs part n e =
     (λ i grey l. let z : 0 + 0 + i ≡ i = omega arith in rw z) in
     row_end (bit_row bits text background) 0 k xs _ p (omega (arith, p.size))
 
+-- past the last part of eight pixels
+pub parts_end : (f : ℕ → ℕ → ℕ) (x k : ℕ) (xs row : List ℕ) → FirstPainted f x (k * 8) xs row → length xs / 8 ≤ k → FirstPainted f x (length xs / 8 * 8) xs row
+parts_end f x k xs row p past = let e : k * 8 ≡ length xs / 8 * 8 = omega (arith, p.reach) in rw e at p
+
 -- a loop over a row, drawn in parts from the bits at their first pixel
-module _ (bytes : List ℕ) (stride x y n m bits : ℕ) (text background : OptionalGrey) (xs row part : List ℕ) (small : (k : ℕ) → Fits w8 (get_or bytes k 0))
+module _ (bytes : List ℕ) (stride x y n m bits : ℕ) (text background : Option ℕ) (xs row part : List ℕ) (small : (k : ℕ) → Fits w8 (get_or bytes k 0))
     (s : SubImage stride x y (length xs) 1 m) (p : FirstPainted (image_row bytes stride y text background) x n xs row) (e : bits ≡ bits_at bytes stride (x + n) y) where
   -- the part from n to k
   part_step : (k : ℕ) → n ≤ k → k ≤ n + 8 → k ≤ length xs → part ≡ map_indexed (bit_row bits text background) 0 (take (k - n) (drop n row))
@@ -130,13 +134,13 @@ module _ (bytes : List ℕ) (stride x y n m bits : ℕ) (text background : Optio
       (λ i grey h. rw e (bit_row_lem bytes small stride (x + n) y text background i grey (omega arith) (omega (arith, s.right))))
 
   -- eight pixels
-  pub eight_step : 8 ≤ length row - n → part ≡ map_indexed (bit_row bits text background) 0 (take (n + 8 - n) (drop n row))
-      → FirstPainted (image_row bytes stride y text background) x (n + 8) xs (put_mid n (n + 8 - n) row part)
-  eight_step h ep = part_step (n + 8) (omega arith) (omega arith) (omega arith) ep
+  pub eight_step : (k : ℕ) → n ≡ k * 8 → k < length xs / 8 → part ≡ map_indexed (bit_row bits text background) 0 (take (n + 8 - n) (drop n row))
+      → FirstPainted (image_row bytes stride y text background) x ((k + 1) * 8) xs (put_mid n (n + 8 - n) row part)
+  eight_step k at less ep = let e : (k + 1) * 8 ≡ n + 8 = omega arith in rw e (part_step (n + 8) (omega arith) (omega arith) (omega arith) ep)
 
   -- the rest, fewer than eight
-  pub rest_step : length row - n < 8 → part ≡ map_indexed (bit_row bits text background) 0 (take (length row - n) (drop n row))
-      → put_mid n (length row - n) row part ≡ map_indexed (image_row bytes stride y text background) x xs
+  pub rest_step : n ≡ length xs / 8 * 8 → part ≡ map_indexed (bit_row bits text background) 0 (take (length xs - n) (drop n row))
+      → put_mid n (length xs - n) row part ≡ map_indexed (image_row bytes stride y text background) x xs
   rest_step h ep =
-      let q = part_step (length row) (omega arith) (omega arith) (omega arith) ep in
-      row_end (image_row bytes stride y text background) x (length row) xs _ q (omega (arith, q.size))
+      let q = part_step (length xs) (omega arith) (omega arith) (omega arith) ep in
+      row_end (image_row bytes stride y text background) x (length xs) xs _ q (omega (arith, q.size))

@@ -4,8 +4,8 @@ use Prim.Native.Nat.{ℕ, ◌+◌, ◌-◌, ◌≤◌, ◌<◌, min}
 use native.Mathlib.Omega.{arith}
 use mathlib.Core.Path.{◌≡◌}
 use mathlib.Core.List.{List}
+use Rattle.std.specs.Prelude.{Option}
 use Rattle.geometry.specs.declared.DrawTarget.{DrawTarget}
-use Rattle.geometry.specs.declared.OptionalGrey.{OptionalGrey}
 use Rattle.geometry.proofs.Rectangles.{In}
 use Rattle.atlas.specs.declared.Atlas.{Atlas}
 use Rattle.atlas.specs.Atlas.{cell_height, glyph, lower_edge, first_row_not_run}
@@ -22,15 +22,11 @@ module _ (top ch edge : ℕ) where
   above_run r p q = omega arith
 
   -- as it is found
-  pub row_of_top : edge ≤ top → top ≡ first_row_not_run top ch edge
+  pub row_below : (n below : ℕ) → below ≡ edge - top → n ≡ min ch below → top + n ≡ first_row_not_run top ch edge
   unfolding first_row_not_run
-  row_of_top h = omega arith
+  row_below n below d e = omega arith
 
-  pub row_below : (n : ℕ) → top < edge → n ≡ min ch (edge - top) → top + n ≡ first_row_not_run top ch edge
-  unfolding first_row_not_run
-  row_below n h e = omega arith
-
-pub not_run_unpainted : (t : DrawTarget) (bytes : List ℕ) (a : Atlas) (text background : OptionalGrey) (i left top c r grey : ℕ) → In t.clip_area c r
+pub not_run_unpainted : (t : DrawTarget) (bytes : List ℕ) (a : Atlas) (text background : Option ℕ) (i left top c r grey : ℕ) → In t.clip_area c r
     → first_row_not_run top (cell_height a) (lower_edge t) ≤ r → glyph bytes a text background i left top c r grey ≡ grey
 unfolding first_row_not_run
 not_run_unpainted t bytes a text background i left top c r grey shown past = glyph_out bytes a text background i left top c r grey (λ j. omega arith)

@@ -5,8 +5,7 @@ use mathlib.Core.Bool.{Bool, true, false, cond}
 use mathlib.Core.List.{List}
 use mathlib.Core.Logic.{⊎_elim}
 use lib.ListN.{length}
-use Rattle.geometry.specs.declared.OptionalGrey.{OptionalGrey}
-use Rattle.geometry.specs.declared.OptionalGrey.TheVariants.{Unset}
+use Rattle.std.specs.Prelude.{Option, None}
 use Rattle.geometry.specs.Rectangle.{rectangle}
 use Rattle.geometry.specs.Layer.{within}
 use Rattle.geometry.proofs.Rectangles.{In, in_or_out}
@@ -19,7 +18,7 @@ cond_same : (t : Bool) (n : ℕ) → cond t n n ≡ n
 cond_same true n = refl
 cond_same false n = refl
 
-module _ (bytes : List ℕ) (a : Atlas) (text background : OptionalGrey) (i left top c r grey : ℕ) where
+module _ (bytes : List ℕ) (a : Atlas) (text background : Option ℕ) (i left top c r grey : ℕ) where
   -- a glyph paints nothing outside its cell
   pub glyph_out : (In (rectangle left top (cell_width a) (cell_height a)) c r → ⊥) → glyph bytes a text background i left top c r grey ≡ grey
   unfolding glyph
@@ -31,6 +30,6 @@ module _ (bytes : List ℕ) (a : Atlas) (text background : OptionalGrey) (i left
   glyph-within = ⊎_elim (λ h. within_in _ (glyph bytes a text background i left top) c r grey h) (λ o. within_out _ (glyph bytes a text background i left top) c r grey o ∙ sym (glyph_out o)) (in_or_out (rectangle left top (cell_width a) (cell_height a)) c r)
 
 -- nor does one with neither grey set
-pub glyph_unset : (bytes : List ℕ) (a : Atlas) (i left top c r grey : ℕ) → glyph bytes a Unset Unset i left top c r grey ≡ grey
+pub glyph_unset : (bytes : List ℕ) (a : Atlas) (i left top c r grey : ℕ) → glyph bytes a None None i left top c r grey ≡ grey
 unfolding glyph image
 glyph_unset bytes a i left top c r grey = simp cond_same

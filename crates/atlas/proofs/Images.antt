@@ -7,8 +7,8 @@ use mathlib.Core.List.{List}
 use lib.ListN.{length, take, drop, length-drop}
 use lib.Seq.{length-take-le}
 use borrow.Rule.Slice.PartMut.{put_mid}
+use Rattle.std.specs.Prelude.{Option}
 use Rattle.geometry.specs.declared.FrameArea.{FrameArea}
-use Rattle.geometry.specs.declared.OptionalGrey.{OptionalGrey}
 use Rattle.geometry.specs.Layer.{origin, Layer, map_indexed}
 use Rattle.geometry.specs.Canvas.{InFrame}
 use Rattle.geometry.proofs.Frames.{RowsPainted, rows_start, row_end_in, rows_step}
@@ -26,13 +26,13 @@ sub_image_row fw a k stride x y n f xs frame in_frame p less s =
     rw (add-sub_cancel_left b a.width, e) (omega (arith, s))
 
 -- the state of the loop over a part's rows: the first k are drawn, and the part lies in the frame and in the atlas
-pub record RowsDrawn (fw : ℕ) (a : FrameArea) (k stride x y : ℕ) (bytes : List ℕ) (text background : OptionalGrey) (xs frame : List ℕ) : Type 0 where
+pub record RowsDrawn (fw : ℕ) (a : FrameArea) (k stride x y : ℕ) (bytes : List ℕ) (text background : Option ℕ) (xs frame : List ℕ) : Type 0 where
   pub rows : RowsPainted fw a k (image bytes stride x y (origin + a.left) (origin + a.top) text background) xs frame
   pub in_frame : InFrame fw (length xs) a
   pub in_image : SubImage stride x y a.width a.height (length bytes)
   pub rows_fit : y + a.height < 2 ^ 64
 
-module _ (fw : ℕ) (a : FrameArea) (stride x y : ℕ) (bytes : List ℕ) (text background : OptionalGrey) (xs : List ℕ) where
+module _ (fw : ℕ) (a : FrameArea) (stride x y : ℕ) (bytes : List ℕ) (text background : Option ℕ) (xs : List ℕ) where
   pub image-start : InFrame fw (length xs) a → SubImage stride x y a.width a.height (length bytes) → length bytes < 2 ^ 64 → RowsDrawn fw a 0 stride x y bytes text background xs xs
   image-start f i b = record { rows = rows_start fw a _ xs; in_frame = f; in_image = i; rows_fit = omega (arith, i.foot, div-le_self (length bytes) stride) }
 

@@ -3,17 +3,15 @@ use Prim.Native.Nat.{ℕ, ◌+◌, ◌-◌, ◌*◌, ◌/◌, ◌^◌, ◌≤◌
 use native.Mathlib.Nat.{div-le_self}
 use native.Mathlib.Omega.{arith}
 use mathlib.Core.Path.{◌≡◌, refl, sym, ap, ◌∙◌}
-use mathlib.Core.Bool.{Bool, true, false, cond, and-eq-true_iff}
+use mathlib.Core.Bool.{Bool, true, false, cond}
 use mathlib.Core.List.{List}
 use lib.ListN.{length}
-use lib.Dec.{leb}
 use mir.Syntax.{w32, w64}
 use mir.Val.{Fits}
-use borrow.Author.Tests.{leb-true}
+use Rattle.std.specs.Prelude.{Option, Some, None}
 use Rattle.geometry.specs.declared.Rectangle.{Rectangle}
 use Rattle.geometry.specs.declared.DrawTarget.{DrawTarget}
 use Rattle.geometry.specs.declared.FrameArea.{FrameArea}
-use Rattle.geometry.specs.declared.OptionalGrey.{OptionalGrey}
 use Rattle.geometry.specs.Rectangle.{rectangle, is_empty, intersection}
 use Rattle.geometry.specs.Layer.{origin, Layer, within, paint}
 use Rattle.geometry.specs.Canvas.{Canvas, InFrame, from_corner, paint_on}
@@ -22,11 +20,9 @@ use Rattle.geometry.proofs.Layers.{within_same, paint_none, paint-same, within_n
 use Rattle.geometry.proofs.Frames.{rows_end}
 use Rattle.geometry.proofs.Clips.{shown_in_area, shown_ends, shown_starts, part_in_frame, part-on_frame, paint_shown, paint_unshown}
 use Rattle.atlas.specs.declared.Atlas.{Atlas}
-use Rattle.atlas.specs.declared.Corner.{Corner}
-use Rattle.atlas.specs.declared.Corner.TheVariants.{At, Missing}
 use Rattle.atlas.specs.Atlas.{cell_width, cell_height, row_bytes, image_height, glyph_column, glyph_row, is_drawn, image, glyph, lower_edge, first_row_not_run}
 use Rattle.atlas.specs.Row.{glyph_corner, SubImage}
-use Rattle.atlas.proofs.Corners.{column_in}
+use Rattle.atlas.proofs.Corners.{column_in, drawn_tests}
 use Rattle.atlas.proofs.Glyphs.{glyph-within}
 use Rattle.atlas.proofs.Images.{RowsDrawn}
 
@@ -52,20 +48,18 @@ module _ (t : DrawTarget) (cell shown : Rectangle) (e : shown ≡ intersection t
   pub shown_in_frame : (n : ℕ) (part : FrameArea) → Canvas t n → part ≡ from_corner shown → InFrame t.width n part
   shown_in_frame n part canvas p = part_in_frame t cell shown e n canvas part p (is_empty shown) refl shown-some
 
+  -- the row after its last
+  pub row_shown : shown.top + shown.height ≡ first_row_not_run cell.top cell.height (lower_edge t)
+  unfolding first_row_not_run intersection
+  row_shown = let q = rw e at (not_empty shown shown-some) in rw e (omega arith)
+
+  pub row_shown_fits : (n : ℕ) → Canvas t n → Fits w32 (shown.top + shown.height)
+  row_shown_fits n canvas = omega (arith, canvas, shown_ends t.clip_area cell shown e shown-some)
+
   -- its rows are drawn
-  module _ (n : ℕ) (canvas : Canvas t n) (part : FrameArea) (p : part ≡ from_corner shown) (bytes : List ℕ) (stride x y k : ℕ) (text background : OptionalGrey) (xs ys : List ℕ)
+  module _ (n : ℕ) (canvas : Canvas t n) (part : FrameArea) (p : part ≡ from_corner shown) (bytes : List ℕ) (stride x y k : ℕ) (text background : Option ℕ) (xs ys : List ℕ)
       (d : RowsDrawn t.width part k stride (x + (shown.left - cell.left)) (y + (shown.top - cell.top)) bytes text background xs ys)
       (past : part.height ≤ k) where
-    all-run : k ≡ shown.height
-    all-run = let h : part.height ≡ shown.height = rw p in omega (arith, d.rows.reach)
-
-    pub row_shown : shown.top + k ≡ first_row_not_run cell.top cell.height (lower_edge t)
-    unfolding first_row_not_run intersection
-    row_shown = let q = rw e at (not_empty shown shown-some) in rw (all-run, e) (omega arith)
-
-    pub row_shown_fits : Fits w32 (shown.top + k)
-    row_shown_fits = omega (arith, all-run, canvas, shown_ends t.clip_area cell shown e shown-some)
-
     -- and that is the whole part of the atlas, as far as it is shown
     pub image_shown : ys ≡ paint_on t (within cell (image bytes stride x y cell.left cell.top text background)) xs
     unfolding image
@@ -82,59 +76,62 @@ module _ (t : DrawTarget) (cell shown : Rectangle) (e : shown ≡ intersection t
         rw (p, u, v)))
         ∙ paint_shown t.clip_area cell shown e t.width whole xs
 
+-- the column and the row of a corner
+column_of : Option (ℕ × ℕ) → ℕ
+column_of None = 0
+column_of (Some p) = p.0
+
+row_of : Option (ℕ × ℕ) → ℕ
+row_of None = 0
+row_of (Some p) = p.1
+
 -- what a corner tells
-module _ (a : Atlas) (n i : ℕ) (corner : Corner) (e : corner ≡ glyph_corner a n i) where
-  pub corner_missing : corner ≡ Missing → is_drawn a n i ≡ false
+module _ (a : Atlas) (n i : ℕ) (corner : Option (ℕ × ℕ)) (e : corner ≡ glyph_corner a n i) where
+  pub corner_missing : corner ≡ None → is_drawn a n i ≡ false
   unfolding glyph_corner
   corner_missing m = go (is_drawn a n i) (sym m ∙ e)
     where
-      go : (t : Bool) → Missing ≡ cond t (At (glyph_column a i) (glyph_row a i)) Missing → t ≡ false
+      go : (t : Bool) → ◌≡◌ {A = Option (ℕ × ℕ)} None (cond t (Some (glyph_column a i, glyph_row a i)) None) → t ≡ false
       go true h = cc
       go false h = refl
 
-  pub corner_at : (column row : ℕ) → corner ≡ At column row → (is_drawn a n i ≡ true) × (column ≡ glyph_column a i) × (row ≡ glyph_row a i)
-  unfolding glyph_corner
+  pub corner_at : (column row : ℕ) → corner ≡ Some (column, row) → (is_drawn a n i ≡ true) × (column ≡ glyph_column a i) × (row ≡ glyph_row a i)
+  unfolding glyph_corner column_of row_of
   corner_at column row m = go (is_drawn a n i) (sym m ∙ e)
     where
-      go : (t : Bool) → At column row ≡ cond t (At (glyph_column a i) (glyph_row a i)) Missing → (t ≡ true) × (column ≡ glyph_column a i) × (row ≡ glyph_row a i)
-      go true h = (refl, cc, cc)
+      go : (t : Bool) → ◌≡◌ {A = Option (ℕ × ℕ)} (Some (column, row)) (cond t (Some (glyph_column a i, glyph_row a i)) None) → (t ≡ true) × (column ≡ glyph_column a i) × (row ≡ glyph_row a i)
+      go true h = (refl, ap column_of h, ap row_of h)
       go false h = (cc, cc, cc)
 
 -- a glyph that is drawn lies in the atlas
-module _ (a : Atlas) (n i : ℕ) (e : is_drawn a n i ≡ true) where
-  pub drawn_in : (glyph_column a i + cell_width a ≤ a.width) × (glyph_row a i + cell_height a ≤ image_height a n)
-  unfolding is_drawn
-  drawn_in =
-      let p = (and-eq-true_iff (leb 1 (cell_width a)) _).0 e in
-      let q = (and-eq-true_iff (leb 1 (cell_height a)) _).0 p.1 in
-      let r = (and-eq-true_iff (leb (cell_width a) a.width) _).0 q.1 in
-      (column_in i _ (cell_width a) a.width refl (leb-true _ _ p.0) (leb-true _ _ r.0), leb-true _ _ r.1)
+pub drawn_in : (a : Atlas) (n i : ℕ) → is_drawn a n i ≡ true → (glyph_column a i + cell_width a ≤ a.width) × (glyph_row a i + cell_height a ≤ image_height a n)
+drawn_in a n i e = let t = drawn_tests a n i e in (column_in i _ (cell_width a) a.width refl t.wide t.fits, t.above_foot)
 
 pub some_shown : (clip cell shown : Rectangle) (empty : Bool) → shown ≡ intersection clip cell → empty ≡ is_empty shown → empty ≡ false → is_empty (intersection clip cell) ≡ false
 some_shown clip cell shown empty e is-empty holds = cc
 
 -- a glyph is not painted where a draw target shows nothing of its cell
-pub glyph_unshown : (t : DrawTarget) (bytes : List ℕ) (a : Atlas) (text background : OptionalGrey) (i left top : ℕ) (shown : Rectangle) (empty : Bool) (xs : List ℕ)
+pub glyph_unshown : (t : DrawTarget) (bytes : List ℕ) (a : Atlas) (text background : Option ℕ) (i left top : ℕ) (shown : Rectangle) (empty : Bool) (xs : List ℕ)
     → shown ≡ intersection t.clip_area (rectangle left top (cell_width a) (cell_height a)) → empty ≡ is_empty shown → empty ≡ true → xs ≡ paint_on t (glyph bytes a text background i left top) xs
 glyph_unshown t bytes a text background i left top shown empty xs e is-empty holds =
     paint_unshown t.clip_area _ shown e t.width _ xs empty is-empty holds
     ∙ paint-same t.width _ _ xs (within_same t.clip_area _ _ (λ c r grey. glyph-within bytes a text background i left top c r grey))
 
 -- a glyph whose corner is known, on a draw target
-module _ (bytes : List ℕ) (a : Atlas) (i : ℕ) (place : Corner) (k : place ≡ glyph_corner a (length bytes) i) where
-  module _ (t : DrawTarget) (text background : OptionalGrey) (left top : ℕ) (xs : List ℕ) where
-    pub glyph_missing : place ≡ Missing → xs ≡ paint_on t (glyph bytes a text background i left top) xs
+module _ (bytes : List ℕ) (a : Atlas) (i : ℕ) (place : Option (ℕ × ℕ)) (k : place ≡ glyph_corner a (length bytes) i) where
+  module _ (t : DrawTarget) (text background : Option ℕ) (left top : ℕ) (xs : List ℕ) where
+    pub glyph_missing : place ≡ None → xs ≡ paint_on t (glyph bytes a text background i left top) xs
     unfolding glyph
     glyph_missing m =
         let d = corner_missing a (length bytes) i place k m in
         sym (paint_none t.width _ xs (within_none t.clip_area _ (λ c r grey. rw d)))
 
-    pub glyph_drawn : (x y : ℕ) (ys : List ℕ) → place ≡ At x y → ys ≡ paint_on t (within (rectangle left top (cell_width a) (cell_height a)) (image bytes (row_bytes a) x y left top text background)) xs
+    pub glyph_drawn : (x y : ℕ) (ys : List ℕ) → place ≡ Some (x, y) → ys ≡ paint_on t (within (rectangle left top (cell_width a) (cell_height a)) (image bytes (row_bytes a) x y left top text background)) xs
         → ys ≡ paint_on t (glyph bytes a text background i left top) xs
     unfolding glyph
     glyph_drawn x y ys at f =
         let d = corner_at a (length bytes) i place k x y at in
         f ∙ paint-same t.width _ _ xs (within_same t.clip_area _ _ (λ c r grey. rw (d.0, d.1, d.2)))
 
-  pub glyph_sub_image : (x y : ℕ) → place ≡ At x y → a.width < 2 ^ 32 → SubImage (row_bytes a) x y (cell_width a) (cell_height a) (length bytes)
+  pub glyph_sub_image : (x y : ℕ) → place ≡ Some (x, y) → a.width < 2 ^ 32 → SubImage (row_bytes a) x y (cell_width a) (cell_height a) (length bytes)
   glyph_sub_image x y at b = let d = corner_at a (length bytes) i place k x y at in omega (arith, drawn_in a (length bytes) i d.0, d.1, d.2)

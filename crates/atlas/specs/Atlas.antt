@@ -1,9 +1,8 @@
 -- An atlas's rows of bits, its glyphs' cells, and where the loop over a cell's rows stops (docs/SHEET.md, Atlas and Stop below the frame).
 -- Assumes nothing.
 -- To be believed: it says what a sheet means.
-use Rattle.std.specs.Prelude.{ℕ, ◌+◌, ◌-◌, ◌*◌, ◌/◌, ◌%◌, ◌^◌, min, max, Bool, cond, ◌&&◌, List, length, get_or, leb, eqb}
+use Rattle.std.specs.Prelude.{Option, ℕ, ◌+◌, ◌-◌, ◌*◌, ◌/◌, ◌%◌, ◌^◌, min, max, Bool, cond, ◌&&◌, List, length, get_or, leb, eqb}
 use Rattle.geometry.specs.declared.DrawTarget.{DrawTarget}
-use Rattle.geometry.specs.declared.OptionalGrey.{OptionalGrey}
 use Rattle.geometry.specs.Rectangle.{rectangle}
 use Rattle.geometry.specs.Layer.{Layer, within, colored}
 use Rattle.atlas.specs.declared.Atlas.{Atlas}
@@ -42,12 +41,12 @@ is_drawn a n i =
     leb 1 (cell_width a) && (leb 1 (cell_height a) && (leb (cell_width a) a.width && leb (glyph_row a i + cell_height a) (image_height a n)))
 
 -- the image with its pixel (x₀, y₀) at (left, top): "On pixels take the text grey, off pixels the background grey, each only if set"
-unfoldable pub image : List ℕ → ℕ → ℕ → ℕ → ℕ → ℕ → OptionalGrey → OptionalGrey → Layer
+unfoldable pub image : List ℕ → ℕ → ℕ → ℕ → ℕ → ℕ → Option ℕ → Option ℕ → Layer
 image bytes stride x₀ y₀ left top text background c r grey =
     cond (is_on bytes stride (x₀ + c - left) (y₀ + r - top)) (colored text grey) (colored background grey)
 
 -- glyph i with its cell's corner at (left, top)
-unfoldable pub glyph : List ℕ → Atlas → OptionalGrey → OptionalGrey → ℕ → ℕ → ℕ → Layer
+unfoldable pub glyph : List ℕ → Atlas → Option ℕ → Option ℕ → ℕ → ℕ → ℕ → Layer
 glyph bytes a text background i left top c r grey =
     cond (is_drawn a (length bytes) i)
     (within (rectangle left top (cell_width a) (cell_height a))

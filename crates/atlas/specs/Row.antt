@@ -1,12 +1,9 @@
 -- A row of an atlas drawn eight pixels at a time, and what drawing part of an atlas requires. Assumes nothing.
 -- Serves contracts: nothing here has to be believed.
-use Rattle.std.specs.Prelude.{ℕ, ◌+◌, ◌-◌, ◌*◌, ◌/◌, ◌%◌, ◌^◌, ◌≤◌, ◌<◌, ◌≡◌, Bool, cond, List, get_or, ltb, eqb}
-use Rattle.geometry.specs.declared.OptionalGrey.{OptionalGrey}
+use Rattle.std.specs.Prelude.{Option, Some, None, ℕ, ◌+◌, ◌-◌, ◌*◌, ◌/◌, ◌%◌, ◌^◌, ◌≤◌, ◌<◌, ◌≡◌, Bool, cond, List, get_or, ltb, eqb}
 use Rattle.geometry.specs.Layer.{colored}
 use Rattle.atlas.specs.declared.Atlas.{Atlas}
 use Rattle.atlas.specs.declared.Cells.{Cells}
-use Rattle.atlas.specs.declared.Corner.{Corner}
-use Rattle.atlas.specs.declared.Corner.TheVariants.{At, Missing}
 use Rattle.atlas.specs.Atlas.{image_height, is_on, glyphs_per_row, is_drawn, glyph_column, glyph_row}
 
 -- how n bytes hold the glyphs of an atlas
@@ -15,15 +12,15 @@ pub record CellsOf (a : Atlas) (n : ℕ) (c : Cells) : Type 0 where
   pub height : c.image_height ≡ image_height a n
 
 -- where glyph i stands in an atlas of n bytes, if it is drawn
-unfoldable pub glyph_corner : Atlas → ℕ → ℕ → Corner
-glyph_corner a n i = cond (is_drawn a n i) (At (glyph_column a i) (glyph_row a i)) Missing
+unfoldable pub glyph_corner : Atlas → ℕ → ℕ → Option (ℕ × ℕ)
+glyph_corner a n i = cond (is_drawn a n i) (Some (glyph_column a i, glyph_row a i)) None
 
 -- a pixel's grey after an atlas's pixel
-abbrev pub blend : Bool → OptionalGrey → OptionalGrey → ℕ → ℕ
+abbrev pub blend : Bool → Option ℕ → Option ℕ → ℕ → ℕ
 blend on text background grey = cond on (colored text grey) (colored background grey)
 
 -- row y of the atlas, column by column
-unfoldable pub image_row : List ℕ → ℕ → ℕ → OptionalGrey → OptionalGrey → ℕ → ℕ → ℕ
+unfoldable pub image_row : List ℕ → ℕ → ℕ → Option ℕ → Option ℕ → ℕ → ℕ → ℕ
 image_row bytes stride y text background x grey = blend (is_on bytes stride x y) text background grey
 
 -- the byte that holds pixel x of row y and the one after it in the row, shifted so that bit 7 is pixel x
@@ -32,7 +29,7 @@ bits_at bytes stride x y =
     (get_or bytes (y * stride + x / 8) 0 * 256 + cond (ltb (x / 8 + 1) stride) (get_or bytes (y * stride + x / 8 + 1) 0) 0) / 2 ^ (8 - x % 8)
 
 -- eight pixels, from bit 7 on
-unfoldable pub bit_row : ℕ → OptionalGrey → OptionalGrey → ℕ → ℕ → ℕ
+unfoldable pub bit_row : ℕ → Option ℕ → Option ℕ → ℕ → ℕ → ℕ
 bit_row bits text background i grey = blend (eqb (bits / 2 ^ (7 - i) % 2) 1) text background grey
 
 -- the w by h pixels from (x, y) on lie in an atlas of n bytes

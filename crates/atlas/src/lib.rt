@@ -1,95 +1,57 @@
 // An atlas of glyphs: where each stands in it, and the drawing of one.
 #![tactic(auto)]
 
-ghost use Rattle.std.specs.Prelude.{◌≡◌, false, ◌/◌, ◌≤◌, length};
+ghost use Rattle.std.specs.Prelude.{◌≡◌, false, ◌≤◌, length};
 ghost use Rattle.geometry.specs.Rectangle.{is_empty, intersection};
 ghost use Rattle.geometry.specs.Layer.{map_indexed, within};
-ghost use Rattle.geometry.specs.Canvas.{Canvas, paint_on};
-ghost use Rattle.atlas.specs.Atlas.{cell_height, image, glyph, lower_edge, first_row_not_run};
+ghost use Rattle.geometry.specs.Painted.{Painted};
+ghost use Rattle.atlas.specs.Atlas.{cell_height, row_bytes, image, glyph, lower_edge, first_row_not_run};
 ghost use Rattle.atlas.specs.Row.{CellsOf, glyph_corner, blend, image_row, bits_at, bit_row, SubImage};
 
-use geometry::numbers::least;
-use geometry::{DrawTarget, OptionalGrey, Point, Rectangle, Size};
-use numbers::wide;
+use geometry::{Frame, Point, Rectangle, Size};
 
-// An atlas of glyphs: embedded-graphics' `ImageRaw` of one bit a pixel, and the size of a glyph's cell in it.
-#[derive(Clone, Copy)]
+// An atlas of glyphs: how wide it is, and the size of a glyph's cell in it.
+#[derive(Clone, Copy, PartialEq, Eq, Debug)]
 pub struct Atlas {
     pub width: u32,
     pub cell_size: Size,
 }
 
 // How an atlas's bytes hold its glyphs: how many stand in a row of cells, and how many rows of pixels there are.
-#[derive(Clone, Copy)]
+#[derive(Clone, Copy, PartialEq, Eq, Debug)]
 pub struct Cells {
     pub glyphs_per_row: u32,
     pub image_height: usize,
 }
 
 // The colours of a glyph: that of the atlas's on pixels and that of its off pixels.
-#[derive(Clone, Copy)]
+#[derive(Clone, Copy, PartialEq, Eq, Debug)]
 pub struct GlyphColors {
-    pub text: OptionalGrey,
-    pub background: OptionalGrey,
+    pub text: Option<u8>,
+    pub background: Option<u8>,
 }
 
-// Where a glyph's cell stands in its atlas.
+// An atlas with its bytes, and how they hold its glyphs: embedded-graphics' `ImageRaw` of one bit a pixel.
 #[derive(Clone, Copy)]
-enum Corner {
-    // its first column and row
-    At(usize, usize),
-    // nowhere: the glyph is not drawn
-    Missing,
-}
-
-// A quotient, 0 for the divisor 0.
-fn quotient(a: usize, b: usize) -> usize
-    ensures { result ≡ a / b }
-{
-    if b == 0 {
-        return 0;
-    }
-    a / b
+pub struct ImageRaw<'a> {
+    pub bytes: &'a [u8],
+    pub atlas: Atlas,
+    pub cells: Cells,
+    ghost cells_of: { CellsOf atlas (length bytes.now) cells },
 }
 
 // How n bytes hold the glyphs of an atlas.
-pub fn cells_of(n: usize, atlas: Atlas) -> Cells
+fn cells_of(n: usize, atlas: Atlas) -> Cells
     ensures { CellsOf atlas n result }
 {
-    let cell = atlas.cell_size;
     let width = atlas.width as usize;
-    let glyphs_per_row = quotient(width, cell.width as usize);
-    let image_height = quotient(n, (width + 7) / 8);
+    let cell_width = atlas.cell_size.width as usize;
+    let glyphs_per_row = width.checked_div(cell_width).unwrap_or(0);
+    let image_height = n.checked_div((width + 7) / 8).unwrap_or(0);
     Cells {
         glyphs_per_row: glyphs_per_row as u32,
         image_height,
     }
-}
-
-// Where the glyph with an index stands in an atlas of n bytes.
-fn glyph_corner(n: usize, atlas: Atlas, cells: Cells, index: u32) -> Corner
-    requires { CellsOf atlas n cells }
-    ensures { result ≡ glyph_corner atlas n index }
-{
-    let cell = atlas.cell_size;
-    let width = cell.width;
-    let height = cell.height as usize;
-    if width < 1 {
-        return Corner::Missing;
-    }
-    if height < 1 {
-        return Corner::Missing;
-    }
-    if atlas.width < width {
-        return Corner::Missing;
-    }
-    let per_row = cells.glyphs_per_row;
-    let column = index % per_row * width;
-    let row = ((index / per_row) as usize) * height;
-    if cells.image_height < row + height {
-        return Corner::Missing;
-    }
-    Corner::At(column as usize, row)
 }
 
 // The pixels from x on of the atlas's row y, as bits 7 to 0 of a number.
@@ -100,89 +62,63 @@ fn bits_at(bytes: &[u8], stride: usize, x: usize, y: usize) -> u32
     let at = x / 8;
     let first = y * stride + at;
     let shift = 8 - x % 8;
-    let high = wide(bytes[first]) * 256;
+    let high = u32::from(bytes[first]) * 256;
     if at + 1 < stride {
-        let low = wide(bytes[first + 1]);
+        let low = u32::from(bytes[first + 1]);
         return (high + low) >> shift;
     }
     high >> shift
 }
 
 // What a pixel becomes: the text's grey where the atlas's pixel is on and the background's where it is off, if set.
-fn blend(on: bool, text: OptionalGrey, background: OptionalGrey, grey: u8) -> u8
-    ensures { result ≡ blend on text background grey }
+fn blend(on: bool, colors: GlyphColors, grey: u8) -> u8
+    ensures { result ≡ blend on colors.text colors.background grey }
 {
-    if on {
-        match text {
-            OptionalGrey::Unset => grey,
-            OptionalGrey::Set(g) => g,
-        }
-    } else {
-        match background {
-            OptionalGrey::Unset => grey,
-            OptionalGrey::Set(g) => g,
-        }
-    }
+    let color = if on { colors.text } else { colors.background };
+    color.unwrap_or(grey)
 }
 
 // Draws at most eight pixels, from the bits 7 to 0 of a number, one by one.
-fn draw_pixels(row: &mut [u8], bits: u32, text: OptionalGrey, background: OptionalGrey)
+fn draw_pixels(row: &mut [u8], bits: u32, colors: GlyphColors)
     requires { length row.old ≤ 8 }
-    ensures { row.new ≡ map_indexed (bit_row bits text background) 0 row.old }
+    ensures { row.new ≡ map_indexed (bit_row bits colors.text colors.background) 0 row.old }
 {
-    let mut i = 0;
-    while i < row.len() {
+    for i in 0..row.len() {
         let on = (bits >> (7 - i)) % 2 == 1;
-        row[i] = blend(on, text, background, row[i]);
-        i += 1;
+        row[i] = blend(on, colors, row[i]);
     }
 }
 
 // The same. For four to six pixels the number is a constant, over which the compiler writes the loop out.
-fn draw_bits(row: &mut [u8], bits: u32, text: OptionalGrey, background: OptionalGrey)
+fn draw_bits(row: &mut [u8], bits: u32, colors: GlyphColors)
     requires { length row.old ≤ 8 }
-    ensures { row.new ≡ map_indexed (bit_row bits text background) 0 row.old }
+    ensures { row.new ≡ map_indexed (bit_row bits colors.text colors.background) 0 row.old }
 {
-    let n = row.len();
-    if n == 4 {
-        draw_pixels(&mut row[0..4], bits, text, background);
-        return;
+    match row.len() {
+        4 => draw_pixels(&mut row[0..4], bits, colors),
+        5 => draw_pixels(&mut row[0..5], bits, colors),
+        6 => draw_pixels(&mut row[0..6], bits, colors),
+        _ => draw_pixels(row, bits, colors),
     }
-    if n == 5 {
-        draw_pixels(&mut row[0..5], bits, text, background);
-        return;
-    }
-    if n == 6 {
-        draw_pixels(&mut row[0..6], bits, text, background);
-        return;
-    }
-    draw_pixels(row, bits, text, background);
 }
 
 // Draws a row of pixels, eight at a time, from the atlas's pixel (x, y) on.
-fn draw_row(
-    row: &mut [u8],
-    bytes: &[u8],
-    stride: usize,
-    x: usize,
-    y: usize,
-    text: OptionalGrey,
-    background: OptionalGrey,
-)
+fn draw_row(row: &mut [u8], bytes: &[u8], stride: usize, x: usize, y: usize, colors: GlyphColors)
     requires { SubImage stride x y (length row.old) 1 (length bytes.now) }
-    ensures { row.new ≡ map_indexed (image_row bytes.now stride y text background) x row.old }
+    ensures { row.new ≡ map_indexed (image_row bytes.now stride y colors.text colors.background) x row.old }
 {
-    let mut i = 0;
-    while 8 <= row.len() - i {
+    let n = row.len();
+    let whole = n / 8;
+    for k in 0..whole {
+        let i = k * 8;
         let e = i + 8;
         let bits = bits_at(bytes, stride, x + i, y);
-        draw_pixels(&mut row[i..e], bits, text, background);
-        i = e;
+        draw_pixels(&mut row[i..e], bits, colors);
     }
-    let n = row.len();
-    if i < n {
-        let bits = bits_at(bytes, stride, x + i, y);
-        draw_bits(&mut row[i..n], bits, text, background);
+    let rest = whole * 8;
+    if rest < n {
+        let bits = bits_at(bytes, stride, x + rest, y);
+        draw_bits(&mut row[rest..n], bits, colors);
     }
 }
 
@@ -190,85 +126,91 @@ fn draw_row(
 fn first_row_not_run(top: u32, height: u32, edge: u32) -> u32
     ensures { result ≡ first_row_not_run top height edge }
 {
-    if edge <= top {
-        return top;
-    }
-    top + least(height, edge - top)
+    top + height.min(edge.saturating_sub(top))
 }
 
-// Draws the atlas from its pixel (x, y) on in a cell of which the target shows some, row by row down to the cell's foot or the target's; gives
-// the first row that is not run.
-fn draw_sub_image(
-    frame: &mut [u8],
-    target: DrawTarget,
-    cell: Rectangle,
-    bytes: &[u8],
-    stride: usize,
-    x: usize,
-    y: usize,
-    colors: GlyphColors,
-) -> u32
-    requires canvas { Canvas target (length frame.old) }
-    requires cell_value { is_empty (intersection target.clip_area cell) ≡ false }
-    requires sub_image { SubImage stride x y cell.width cell.height (length bytes.now) }
-    ensures frame_after { frame.new ≡ paint_on target (within cell (image bytes.now stride x y cell.left cell.top colors.text colors.background)) frame.old }
-    ensures value { result ≡ first_row_not_run cell.top cell.height (lower_edge target) }
-{
-    let shown = target.clip_area.intersection(cell);
-    let column = x + (shown.left - cell.left) as usize;
-    let row = y + (shown.top - cell.top) as usize;
-    let area = shown.on_frame();
-    let fw = target.width;
-    let text = colors.text;
-    let background = colors.background;
-    let mut k: usize = 0;
-    while k < area.height {
-        let a = (area.top + k) * fw + area.left;
-        let b = a + area.width;
-        draw_row(
-            &mut frame[a..b],
+impl<'a> ImageRaw<'a> {
+    // The image of these bytes.
+    pub fn new(bytes: &'a [u8], atlas: Atlas) -> ImageRaw<'a>
+        ensures bytes_value { result.bytes.now ≡ bytes.now }
+        ensures atlas_value { result.atlas ≡ atlas }
+    {
+        let cells = cells_of(bytes.len(), atlas);
+        ImageRaw {
             bytes,
-            stride,
-            column,
-            row + k,
-            text,
-            background,
-        );
-        k += 1;
+            atlas,
+            cells,
+        }
     }
-    shown.top + k as u32
-}
 
-// Draws the glyph with an index, its cell's corner at `corner`, where the target shows it; gives the first row that is not run.
-pub fn draw_glyph(
-    frame: &mut [u8],
-    target: DrawTarget,
-    bytes: &[u8],
-    atlas: Atlas,
-    cells: Cells,
-    colors: GlyphColors,
-    index: u32,
-    corner: Point,
-) -> u32
-    requires canvas { Canvas target (length frame.old) }
-    requires cells_of { CellsOf atlas (length bytes.now) cells }
-    ensures frame_after { frame.new ≡ paint_on target (glyph bytes.now atlas colors.text colors.background index corner.x corner.y) frame.old }
-    ensures value { result ≡ first_row_not_run corner.y (cell_height atlas) (lower_edge target) }
-{
-    let cell = Rectangle {
-        left: corner.x,
-        top: corner.y,
-        width: atlas.cell_size.width,
-        height: atlas.cell_size.height,
-    };
-    let clip = target.clip_area;
-    let not_run = first_row_not_run(cell.top, cell.height, clip.top + clip.height);
-    if clip.intersection(cell).is_empty() {
-        return not_run;
+    // Where the glyph with an index stands, its first column and row; none if it is not drawn.
+    fn glyph_corner(&self, index: u32) -> Option<(usize, usize)>
+        ensures { result ≡ glyph_corner self.now.atlas (length self.now.bytes.now) index }
+    {
+        let Size { width, height } = self.atlas.cell_size;
+        if width == 0 || height == 0 || self.atlas.width < width {
+            return None;
+        }
+        let per_row = self.cells.glyphs_per_row;
+        let column = index % per_row * width;
+        let row = (index / per_row) as usize * height as usize;
+        if self.cells.image_height < row + height as usize {
+            return None;
+        }
+        Some((column as usize, row))
     }
-    let Corner::At(x, y) = glyph_corner(bytes.len(), atlas, cells, index) else {
-        return not_run;
-    };
-    let stride = (atlas.width as usize + 7) / 8;
-    draw_sub_image(frame, target, cell, bytes, stride, x, y, colors)
+
+    // Draws the image from its pixel (x, y) on in a cell of which the frame shows some, row by row down to the cell's foot or the frame's;
+    // gives the first row that is not run.
+    fn draw_sub_image(
+        &self,
+        frame: &mut Frame,
+        cell: Rectangle,
+        x: usize,
+        y: usize,
+        colors: GlyphColors,
+    ) -> u32
+        requires cell_value { is_empty (intersection frame.old.target.clip_area cell) ≡ false }
+        requires sub_image { SubImage (row_bytes self.now.atlas) x y cell.width cell.height (length self.now.bytes.now) }
+        ensures painted { Painted frame.old (within cell (image self.now.bytes.now (row_bytes self.now.atlas) x y cell.left cell.top colors.text colors.background)) frame.new }
+        ensures value { result ≡ first_row_not_run cell.top cell.height (lower_edge frame.old.target) }
+    {
+        let bytes = self.bytes;
+        let stride = (self.atlas.width as usize + 7) / 8;
+        let shown = frame.target.clip_area.intersection(cell);
+        let column = x + (shown.left - cell.left) as usize;
+        let row = y + (shown.top - cell.top) as usize;
+        let area = shown.on_frame();
+        let fw = frame.target.width;
+        let greys = &mut *frame.greys;
+        for k in 0..area.height {
+            let a = (area.top + k) * fw + area.left;
+            let b = a + area.width;
+            draw_row(&mut greys[a..b], bytes, stride, column, row + k, colors);
+        }
+        shown.top + shown.height
+    }
+
+    // Draws the glyph with an index, its cell's corner at `corner`, where the frame shows it; gives the first row that is not run.
+    pub fn draw_glyph(&self, frame: &mut Frame, colors: GlyphColors, index: u32, corner: Point) -> u32
+        ensures painted { Painted frame.old (glyph self.now.bytes.now self.now.atlas colors.text colors.background index corner.x corner.y) frame.new }
+        ensures value { result ≡ first_row_not_run corner.y (cell_height self.now.atlas) (lower_edge frame.old.target) }
+    {
+        let Size { width, height } = self.atlas.cell_size;
+        let cell = Rectangle {
+            left: corner.x,
+            top: corner.y,
+            width,
+            height,
+        };
+        let clip = frame.target.clip_area;
+        let not_run = first_row_not_run(cell.top, cell.height, clip.top + clip.height);
+        if clip.intersection(cell).is_empty() {
+            return not_run;
+        }
+        let Some((x, y)) = self.glyph_corner(index) else {
+            return not_run;
+        };
+        self.draw_sub_image(frame, cell, x, y, colors)
+    }
 }

@@ -5,7 +5,7 @@ use native.Mathlib.Decide.{dec_lt}
 use mathlib.Core.Path.{◌≡◌, sym, ap, ◌∙◌}
 use mathlib.Core.List.{List}
 use mathlib.Core.Logic.{⊎_elim}
-use Rattle.geometry.specs.declared.OptionalGrey.{OptionalGrey}
+use Rattle.std.specs.Prelude.{Option}
 use Rattle.geometry.specs.Rectangle.{rectangle}
 use Rattle.geometry.specs.Layer.{Layer, over, colored, filled, paint}
 use Rattle.geometry.proofs.Rectangles.{In, in_or_out}
@@ -45,7 +45,7 @@ over_ends {g = g} f-ends g-ends = record { past = λ c r grey l. f-ends.past c r
 
 -- ---- filled rectangles of one height
 
-module _ (x top w h : ℕ) (color : OptionalGrey) where
+module _ (x top w h : ℕ) (color : Option ℕ) where
   pub filled_ends : EndsAt (x + w) (filled (rectangle x top w h) color)
   filled_ends = record { past = λ c r grey l. filled_out (rectangle x top w h) color c r grey (λ i. omega arith) }
 
@@ -57,7 +57,7 @@ module _ (x top w h : ℕ) (color : OptionalGrey) where
   filled_in c r grey i = within_in (rectangle x top w h) (λ c r grey. colored color grey) c r grey i
 
 -- one that is v + w wide is one v wide, and then one w wide
-pub filled_joined : (x top v w h : ℕ) (color : OptionalGrey) → Joined (filled (rectangle x top (v + w) h) color) (filled (rectangle x top v h) color) (filled (rectangle (x + v) top w h) color)
+pub filled_joined : (x top v w h : ℕ) (color : Option ℕ) → Joined (filled (rectangle x top (v + w) h) color) (filled (rectangle x top v h) color) (filled (rectangle (x + v) top w h) color)
 filled_joined x top v w h color = record { at = λ c r grey. ⊎_elim (inside c r grey) (outside c r grey) (in_or_out (rectangle x top (v + w) h) c r) }
   where
     inside : (c r grey : ℕ) → In (rectangle x top (v + w) h) c r → filled (rectangle x top (v + w) h) color c r grey ≡ over (filled (rectangle (x + v) top w h) color) (filled (rectangle x top v h) color) c r grey

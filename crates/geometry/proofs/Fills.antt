@@ -9,11 +9,10 @@ use lib.ListN.{length, take, drop, replicate}
 use mir.Syntax.{w64}
 use mir.Val.{Fits}
 use borrow.Rule.Slice.PartMut.{put_mid}
+use Rattle.std.specs.Prelude.{Option, None, Some}
 use Rattle.geometry.specs.declared.Rectangle.{Rectangle}
 use Rattle.geometry.specs.declared.DrawTarget.{DrawTarget}
 use Rattle.geometry.specs.declared.FrameArea.{FrameArea}
-use Rattle.geometry.specs.declared.OptionalGrey.{OptionalGrey}
-use Rattle.geometry.specs.declared.OptionalGrey.TheVariants.{Unset, Set}
 use Rattle.geometry.specs.Rectangle.{is_empty, intersection}
 use Rattle.geometry.specs.Layer.{Layer, colored, filled, paint}
 use Rattle.geometry.specs.Canvas.{Canvas, InFrame, from_corner, on_frame, paint_on}
@@ -53,7 +52,7 @@ module _ (fw n : ℕ) (a : FrameArea) (room : InFrame fw n a) where
 
 pub fill_whole_rows : (fw : ℕ) (a : FrameArea) (grey : ℕ) (xs part : List ℕ) → InFrame fw (length xs) a → a.width ≡ fw
     → part ≡ replicate (length (take (a.top * fw + a.height * fw - a.top * fw) (drop (a.top * fw) xs))) grey
-    → put_mid (a.top * fw) (a.top * fw + a.height * fw - a.top * fw) xs part ≡ paint fw (filled (on_frame a) (Set grey)) xs
+    → put_mid (a.top * fw) (a.top * fw + a.height * fw - a.top * fw) xs part ≡ paint fw (filled (on_frame a) (Some grey)) xs
 unfolding filled
 fill_whole_rows fw a grey xs part room e ep =
     let t : ℕ = a.top * fw in
@@ -62,7 +61,7 @@ fill_whole_rows fw a grey xs part room e ep =
     (paint-run fw t h (on_frame a) (solid grey) xs (rows_run fw a e room.right) (rows_end_in fw (length xs) a room))
 
 -- an area filled on a draw target: nothing where they share nothing, else what they share
-module _ (t : DrawTarget) (area shown : Rectangle) (color : OptionalGrey) (xs : List ℕ) (e : shown ≡ intersection t.clip_area area) where
+module _ (t : DrawTarget) (area shown : Rectangle) (color : Option ℕ) (xs : List ℕ) (e : shown ≡ intersection t.clip_area area) where
   pub fill_unshown : (empty : Bool) → empty ≡ is_empty shown → empty ≡ true → xs ≡ paint_on t (filled area color) xs
   unfolding filled
   fill_unshown empty is-empty holds = paint_unshown t.clip_area area shown e t.width (λ c r grey. colored color grey) xs empty is-empty holds
@@ -73,15 +72,15 @@ module _ (t : DrawTarget) (area shown : Rectangle) (color : OptionalGrey) (xs : 
       f ∙ rw (part-on_frame t area shown e n canvas part p) (paint_shown t.clip_area area shown e t.width (λ c r grey. colored color grey) xs)
 
 -- filling an empty area changes nothing
-pub fill_empty : (t : DrawTarget) (area : Rectangle) (color : OptionalGrey) (xs : List ℕ) (empty : Bool) → empty ≡ is_empty area → empty ≡ true → xs ≡ paint_on t (filled area color) xs
+pub fill_empty : (t : DrawTarget) (area : Rectangle) (color : Option ℕ) (xs : List ℕ) (empty : Bool) → empty ≡ is_empty area → empty ≡ true → xs ≡ paint_on t (filled area color) xs
 fill_empty t area color xs empty is-empty holds =
     sym (paint_none t.width _ xs (within_none t.clip_area (filled area color) (λ c r grey. filled_out area color c r grey (empty_out area empty is-empty holds c r))))
 
 -- filling with a colour that is unset changes nothing
-pub fill_unset : (t : DrawTarget) (area : Rectangle) (color : OptionalGrey) (xs : List ℕ) → color ≡ Unset → xs ≡ paint_on t (filled area color) xs
+pub fill_unset : (t : DrawTarget) (area : Rectangle) (color : Option ℕ) (xs : List ℕ) → color ≡ None → xs ≡ paint_on t (filled area color) xs
 unfolding filled
 fill_unset t area color xs e =
-    rw e (sym (paint_none t.width _ xs (within_none t.clip_area (filled area Unset) (within_none area (λ c r grey. grey) (λ c r grey. refl)))))
+    rw e (sym (paint_none t.width _ xs (within_none t.clip_area (filled area None) (within_none area (λ c r grey. grey) (λ c r grey. refl)))))
 
-pub fill_set : (t : DrawTarget) (area : Rectangle) (color : OptionalGrey) (grey : ℕ) (xs ys : List ℕ) → color ≡ Set grey → ys ≡ paint_on t (filled area (Set grey)) xs → ys ≡ paint_on t (filled area color) xs
+pub fill_set : (t : DrawTarget) (area : Rectangle) (color : Option ℕ) (grey : ℕ) (xs ys : List ℕ) → color ≡ Some grey → ys ≡ paint_on t (filled area (Some grey)) xs → ys ≡ paint_on t (filled area color) xs
 fill_set t area color grey xs ys e f = rw e f

@@ -8,8 +8,8 @@ use mathlib.Core.List.{List, [], ◌∷◌}
 use mathlib.Core.Logic.{⊎_elim}
 use lib.ListN.{length, get_or}
 use lib.Seq.{ext_get_or}
+use Rattle.std.specs.Prelude.{Option}
 use Rattle.geometry.specs.declared.Rectangle.{Rectangle}
-use Rattle.geometry.specs.declared.OptionalGrey.{OptionalGrey}
 use Rattle.geometry.specs.Rectangle.{covers, intersection}
 use Rattle.geometry.specs.Layer.{origin, Layer, over, within, colored, filled, map_indexed, paint}
 use Rattle.geometry.proofs.Rectangles.{In, in_covers, out_covers, in_or_out, intersection_in, intersection_both}
@@ -38,7 +38,13 @@ within-intersection a b f c r grey = ⊎_elim
     (λ p. within_out a (within b f) c r grey p) (in_or_out a c r) ∙ sym (within_out _ f c r grey o))
     (in_or_out (intersection a b) c r)
 
-pub filled_out : (a : Rectangle) (color : OptionalGrey) (c r grey : ℕ) → (In a c r → ⊥) → filled a color c r grey ≡ grey
+pub within_over : (a : Rectangle) (f g : Layer) (c r grey : ℕ) → over (within a g) (within a f) c r grey ≡ within a (over g f) c r grey
+within_over a f g c r grey = ⊎_elim
+    (λ i. within_in a g c r _ i ∙ ap (g c r) (within_in a f c r grey i) ∙ sym (within_in a (over g f) c r grey i))
+    (λ o. within_out a g c r _ o ∙ within_out a f c r grey o ∙ sym (within_out a (over g f) c r grey o))
+    (in_or_out a c r)
+
+pub filled_out : (a : Rectangle) (color : Option ℕ) (c r grey : ℕ) → (In a c r → ⊥) → filled a color c r grey ≡ grey
 unfolding filled
 filled_out a color c r grey o = within_out a (λ c r grey. colored color grey) c r grey o
 

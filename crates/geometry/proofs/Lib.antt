@@ -5,3 +5,4 @@ pub mod Rows
 pub mod Frames
 pub mod Clips
 pub mod Fills
+pub mod Paintings

@@ -1,9 +1,7 @@
 -- The frame as a list of greys by row, and layers: what a drawing makes of each pixel's grey. Assumes nothing.
 -- To be believed: it says what a sheet means.
-use Rattle.std.specs.Prelude.{ℕ, suc, ◌+◌, ◌/◌, ◌%◌, cond, List, [], ◌∷◌, ℤ, pos, ◌-ℤ◌}
+use Rattle.std.specs.Prelude.{ℕ, suc, Option, None, Some, ◌+◌, ◌/◌, ◌%◌, cond, List, [], ◌∷◌, ℤ, pos, ◌-ℤ◌}
 use Rattle.geometry.specs.declared.Rectangle.{Rectangle}
-use Rattle.geometry.specs.declared.OptionalGrey.{OptionalGrey}
-use Rattle.geometry.specs.declared.OptionalGrey.TheVariants.{Unset, Set}
 use Rattle.geometry.specs.Rectangle.{rectangle, covers}
 
 -- the frame's column 0 and row 0 stand at `origin`, so that each position that the limits allow is a natural number
@@ -31,12 +29,12 @@ abbrev pub within : Rectangle → Layer → Layer
 within a f c r grey = cond (covers a c r) (f c r grey) grey
 
 -- a pixel's grey after a colour, "each only if set"
-abbrev pub colored : OptionalGrey → ℕ → ℕ
-colored Unset grey = grey
-colored (Set g) grey = g
+abbrev pub colored : Option ℕ → ℕ → ℕ
+colored None grey = grey
+colored (Some g) grey = g
 
 -- "Filling paints each covered pixel"
-unfoldable pub filled : Rectangle → OptionalGrey → Layer
+unfoldable pub filled : Rectangle → Option ℕ → Layer
 filled a color = within a (λ c r grey. colored color grey)
 
 -- a list with each element replaced by what f makes of its index, counted from k, and of itself

@@ -1,3 +1,4 @@
 pub mod Rectangle
 pub mod Layer
 pub mod Canvas
+pub mod Painted

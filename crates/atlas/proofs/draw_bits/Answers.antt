@@ -2,11 +2,11 @@
 use Rattle.atlas.proofs.Bits.{whole_part}
 use Rattle.atlas.proofs.draw_bits.Goals as goal
 
-pub returns-then-n-eq4 : goal.returns-then-n-eq4
-returns-then-n-eq4 c = search whole_part
+pub returns-in-4 : goal.returns-in-4
+returns-in-4 c = search whole_part
 
-pub returns-then-n-eq5 : goal.returns-then-n-eq5
-returns-then-n-eq5 c = search whole_part
+pub returns-in-5 : goal.returns-in-5
+returns-in-5 c = search whole_part
 
-pub returns-then-n-eq6 : goal.returns-then-n-eq6
-returns-then-n-eq6 c = search whole_part
+pub returns-in-6 : goal.returns-in-6
+returns-in-6 c = search whole_part

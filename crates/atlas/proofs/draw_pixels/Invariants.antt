@@ -1,12 +1,7 @@
 -- `draw_pixels` meets its contract: at pixel i the first i pixels are drawn and the others as they were. Assumes nothing.
-use Prim.Native.Nat.{◌-◌}
-use lib.ListN.{length}
 use Rattle.geometry.proofs.Rows.{FirstPainted}
 use Rattle.atlas.specs.Row.{bit_row}
 use Rattle.atlas.proofs.draw_pixels.Given as goal
 
 abbrev pub invariant-loop-i : goal.invariant-loop-i
-invariant-loop-i l = FirstPainted (bit_row l.bits l.text l.background) 0 l.i l.initial.row l.row
-
-abbrev pub decreases-loop-i : goal.decreases-loop-i
-decreases-loop-i l = length l.initial.row - l.i
+invariant-loop-i l = FirstPainted (bit_row l.bits l.colors.text l.colors.background) 0 l.i l.initial.row l.row

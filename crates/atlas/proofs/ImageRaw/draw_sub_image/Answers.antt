@@ -1,10 +1,11 @@
--- `draw_sub_image` meets its contract: at row k the first k rows of what the target shows are drawn, and past the last one stands the cell's foot
+-- `ImageRaw::draw_sub_image` meets its contract: at row k the first k rows of what the target shows are drawn, and past the last one stands the cell's foot
 -- or the target's. Assumes nothing.
+use mathlib.Core.Path.{refl}
 use Rattle.geometry.proofs.Clips.{shown_starts, shown_past_left, shown_past_top}
 use Rattle.geometry.proofs.Frames.{row_fits, row_start_fits, row_end_fits, row_end_in}
 use Rattle.atlas.proofs.Images.{sub_image_row, image-start, image-step}
 use Rattle.atlas.proofs.Shown.{shown_column_fits, shown_row_fits, shown_sub_image, shown_in_frame, row_shown, row_shown_fits, image_shown}
-use Rattle.atlas.proofs.draw_sub_image.Goals as goal
+use Rattle.atlas.proofs.ImageRaw.draw_sub_image.Goals as goal
 
 pub overflow_sub-column : goal.overflow_sub-column
 overflow_sub-column c = search shown_past_left
@@ -45,8 +46,8 @@ loop-k-preserved c = search image-step
 pub overflow_add-result : goal.overflow_add-result
 overflow_add-result c = search row_shown_fits
 
-pub returns-clause-frame_after : goal.returns-clause-frame_after
-returns-clause-frame_after c = search image_shown
+pub returns-clause-painted : goal.returns-clause-painted
+returns-clause-painted c = record { greys = search image_shown; same_greys = refl; same_target = refl }
 
 pub returns-clause-value : goal.returns-clause-value
 returns-clause-value c = search row_shown

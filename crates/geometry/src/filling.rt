@@ -1,0 +1,24 @@
+// Rows of a frame's greys, filled.
+ghost use Rattle.std.specs.Prelude.{◌≡◌, length, Some};
+ghost use Rattle.geometry.specs.Layer.{paint, filled};
+ghost use Rattle.geometry.specs.Canvas.{InFrame, on_frame};
+
+use crate::FrameArea;
+
+// Fills a rectangle of a frame fw wide: rows as wide as the frame are filled as one.
+pub fn fill_area(greys: &mut [u8], fw: usize, area: FrameArea, grey: u8)
+    requires { InFrame fw (length greys.old) area }
+    ensures { greys.new ≡ paint fw (filled (on_frame area) (Some grey)) greys.old }
+{
+    if area.width == fw {
+        let a = area.top * fw;
+        let b = a + area.height * fw;
+        greys[a..b].fill(grey);
+        return;
+    }
+    for k in 0..area.height {
+        let left = (area.top + k) * fw + area.left;
+        let right = left + area.width;
+        greys[left..right].fill(grey);
+    }
+}
