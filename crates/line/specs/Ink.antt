@@ -1,9 +1,8 @@
 -- What the ink box of a line has to be (docs/SHEET.md, Ink): which rows count, and the smallest rectangle over them and the advance, which
 -- `ink_tight` proves (proofs/Tight.antt). Assumes nothing.
 -- To be believed: it says what a sheet means.
-use Rattle.std.specs.Prelude.{ℕ, ◌+◌, ◌≤◌, ◌<◌, ◌≡◌, true, false, ◌⊎◌}
+use Rattle.std.specs.Prelude.{ℕ, Option, ◌+◌, ◌≤◌, ◌<◌, ◌≡◌, true, false, ◌⊎◌}
 use Rattle.geometry.specs.declared.Rectangle.{Rectangle}
-use Rattle.geometry.specs.declared.OptionalGrey.{OptionalGrey}
 use Rattle.geometry.specs.Rectangle.{covers, is_empty}
 use Rattle.line.specs.declared.DecorationDimensions.{DecorationDimensions}
 use Rattle.line.specs.declared.MonoFont.{MonoFont}
@@ -16,7 +15,7 @@ pub record CharacterRow (m : MonoFont) (s : MonoTextStyle) (r : ℕ) : Type 0 wh
   pub above_foot : r < character_height m
 
 -- "a decoration's rows only if its colour resolves"
-pub record DecorationRow (d : DecorationDimensions) (color : OptionalGrey) (r : ℕ) : Type 0 where
+pub record DecorationRow (d : DecorationDimensions) (color : Option ℕ) (r : ℕ) : Type 0 where
   pub resolves : is_set color ≡ true
   pub from_offset : d.offset ≤ r
   pub above_foot : r < d.offset + d.height

@@ -1,16 +1,11 @@
 -- Limits under which no sum of a line's drawing is too large: what its functions require, and what an accepted sheet gives.
 -- Assumes nothing.
 -- Serves contracts: nothing here has to be believed.
-use Rattle.std.specs.Prelude.{ℕ, ◌+◌, ◌≤◌, List, length}
+use Rattle.std.specs.Prelude.{ℕ, ◌+◌, ◌≤◌}
 use Rattle.geometry.specs.declared.Rectangle.{Rectangle}
-use Rattle.mapping.specs.Entries.{WithinLimit}
-use Rattle.mapping.specs.Search.{StartOf}
-use Rattle.atlas.specs.Row.{CellsOf}
 use Rattle.line.specs.declared.DecorationDimensions.{DecorationDimensions}
 use Rattle.line.specs.declared.MonoFont.{MonoFont}
-use Rattle.line.specs.declared.LineStyle.{LineStyle}
 use Rattle.line.specs.Line.{character_width, character_height, spacing}
-use Rattle.line.specs.Clip.{Covers}
 
 -- a font's numbers: the limits of docs/SHEET.md, Sheet, and 255 for what is stored in a byte
 pub record FontLimits (m : MonoFont) : Type 0 where
@@ -23,14 +18,6 @@ pub record FontLimits (m : MonoFont) : Type 0 where
   pub strikethrough_low : m.strikethrough.height ≤ 255
   pub underline_near : m.underline.offset ≤ 255
   pub underline_low : m.underline.height ≤ 255
-
--- what glyphs are drawn with in a clip, made of the bytes of the font's atlas and of its mapping
-pub record LineStyleOf (atlas mapping : List ℕ) (clip : Rectangle) (s : LineStyle) : Type 0 where
-  pub limits : FontLimits s.font
-  pub mapping_limit : WithinLimit mapping
-  pub cells : CellsOf s.font.atlas (length atlas) s.cells
-  pub start : StartOf mapping s.start
-  pub columns : Covers clip s.columns
 
 -- n bytes of text
 pub record LengthLimit (n : ℕ) : Type 0 where

@@ -1,10 +1,8 @@
 -- One line of text: its glyphs and gaps, its decorations, its advance, its measured box and its ink box (docs/SHEET.md, One line; Ink).
 -- Assumes nothing.
 -- To be believed: it says what a sheet means.
-use Rattle.std.specs.Prelude.{ℕ, zero, suc, ◌+◌, ◌-◌, ◌*◌, ◌/◌, Bool, true, false, cond, ◌||◌, List, [], ◌∷◌, map, length}
+use Rattle.std.specs.Prelude.{ℕ, zero, suc, Option, None, Some, ◌+◌, ◌-◌, ◌*◌, ◌/◌, Bool, true, false, cond, ◌||◌, List, [], ◌∷◌, map, length}
 use Rattle.geometry.specs.declared.Rectangle.{Rectangle}
-use Rattle.geometry.specs.declared.OptionalGrey.{OptionalGrey}
-use Rattle.geometry.specs.declared.OptionalGrey.TheVariants.{Unset, Set}
 use Rattle.geometry.specs.Rectangle.{rectangle, join}
 use Rattle.geometry.specs.Layer.{Layer, transparent, over, filled}
 use Rattle.characters.specs.Utf8.{chars}
@@ -13,7 +11,7 @@ use Rattle.atlas.specs.Atlas.{cell_width, cell_height, glyph}
 use Rattle.line.specs.declared.DecorationDimensions.{DecorationDimensions}
 use Rattle.line.specs.declared.MonoFont.{MonoFont}
 use Rattle.line.specs.declared.DecorationColor.{DecorationColor}
-use Rattle.line.specs.declared.DecorationColor.TheVariants.{None, TextColor, Custom}
+use Rattle.line.specs.declared.DecorationColor.TheVariants.{None as NoColor, TextColor, Custom}
 use Rattle.line.specs.declared.MonoTextStyle.{MonoTextStyle}
 use Rattle.line.specs.declared.Baseline.{Baseline}
 use Rattle.line.specs.declared.Baseline.TheVariants.{Top, Bottom, Middle, Alphabetic}
@@ -51,25 +49,25 @@ top_edge m b y = y - baseline_offset m b
 
 -- ---- colours
 
-abbrev pub text_color : MonoTextStyle → OptionalGrey
+abbrev pub text_color : MonoTextStyle → Option ℕ
 text_color s = s.text_color
 
-abbrev pub background_color : MonoTextStyle → OptionalGrey
+abbrev pub background_color : MonoTextStyle → Option ℕ
 background_color s = s.background_color
 
-abbrev pub is_set : OptionalGrey → Bool
-is_set Unset = false
-is_set (Set g) = true
+abbrev pub is_set : Option ℕ → Bool
+is_set None = false
+is_set (Some g) = true
 
 -- "With either grey set"
 unfoldable pub is_painted : MonoTextStyle → Bool
 is_painted s = is_set (text_color s) || is_set (background_color s)
 
 -- a decoration's colour; "A text-colour decoration without text grey is not drawn"
-unfoldable pub to_color : MonoTextStyle → DecorationColor → OptionalGrey
-to_color s None = Unset
+unfoldable pub to_color : MonoTextStyle → DecorationColor → Option ℕ
+to_color s NoColor = None
 to_color s TextColor = text_color s
-to_color s (Custom g) = Set g
+to_color s (Custom g) = Some g
 
 -- ---- glyphs
 
@@ -96,7 +94,7 @@ advance m s n = cond (is_painted s) (spaced m n) (n * (character_width m + spaci
 
 -- ---- decorations
 
-unfoldable pub decoration : DecorationDimensions → OptionalGrey → ℕ → ℕ → ℕ → Layer
+unfoldable pub decoration : DecorationDimensions → Option ℕ → ℕ → ℕ → ℕ → Layer
 decoration d color width x top = filled (rectangle x (top + d.offset) width d.height) color
 
 -- "strikethrough then underline are filled, that wide, at their offset below the top edge"
@@ -138,7 +136,7 @@ unfoldable pub measured_width : MonoFont → ℕ → ℕ
 measured_width m n = n * (character_width m + spacing m) - spacing m
 
 abbrev pub is_none : DecorationColor → Bool
-is_none None = true
+is_none NoColor = true
 is_none TextColor = false
 is_none (Custom g) = false
 
@@ -161,7 +159,7 @@ abbrev pub character_rows : MonoFont → MonoTextStyle → Rectangle
 character_rows m s = rows_if (is_painted s) 0 (character_height m)
 
 -- "a decoration's rows only if its colour resolves"
-abbrev pub decoration_rows : DecorationDimensions → OptionalGrey → Rectangle
+abbrev pub decoration_rows : DecorationDimensions → Option ℕ → Rectangle
 decoration_rows d color = rows_if (is_set color) d.offset d.height
 
 abbrev pub strikethrough_rows : MonoFont → MonoTextStyle → Rectangle
