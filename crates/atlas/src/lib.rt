@@ -192,7 +192,13 @@ impl<'a> ImageRaw<'a> {
     }
 
     // Draws the glyph with an index, its cell's corner at `corner`, where the frame shows it; gives the first row that is not run.
-    pub fn draw_glyph(&self, frame: &mut Frame, colors: GlyphColors, index: u32, corner: Point) -> u32
+    pub fn draw_glyph(
+        &self,
+        frame: &mut Frame,
+        colors: GlyphColors,
+        index: u32,
+        corner: Point,
+    ) -> u32
         ensures painted { Painted frame.old (glyph self.now.bytes.now self.now.atlas colors.text colors.background index corner.x corner.y) frame.new }
         ensures value { result ≡ first_row_not_run corner.y (cell_height self.now.atlas) (lower_edge frame.old.target) }
     {

@@ -1,28 +1,27 @@
 -- Colours: when the characters take a grey, that they paint nothing without one, and when an underline counts. Assumes nothing.
 use Prim.Native.Nat.{ℕ, ◌+◌}
-use mathlib.Core.Path.{◌≡◌, refl, ◌∙◌}
+use mathlib.Core.Path.{◌≡◌, refl, ap, ◌∙◌}
 use mathlib.Core.Bool.{Bool, true, false, true≢false}
 use mathlib.Mathlib.Data.Bool.Basic.{or-eq-false-eq-eq-false-and-eq-false}
 use mathlib.Core.List.{List, [], ◌∷◌}
-use Rattle.geometry.specs.declared.OptionalGrey.{OptionalGrey}
-use Rattle.geometry.specs.declared.OptionalGrey.TheVariants.{Unset, Set}
+use Rattle.std.specs.Prelude.{Option, Some, None, is_some}
 use Rattle.geometry.specs.Rectangle.{rectangle}
 use Rattle.geometry.specs.Layer.{filled}
 use Rattle.geometry.proofs.Layers.{within_none}
 use Rattle.atlas.proofs.Glyphs.{glyph_unset}
 use Rattle.line.specs.declared.MonoFont.{MonoFont}
 use Rattle.line.specs.declared.DecorationColor.{DecorationColor}
-use Rattle.line.specs.declared.DecorationColor.TheVariants.{None, TextColor, Custom}
+use Rattle.line.specs.declared.DecorationColor.TheVariants.{None as NoColor, TextColor, Custom}
 use Rattle.line.specs.declared.MonoTextStyle.{MonoTextStyle}
-use Rattle.line.specs.Line.{Font, character_width, character_height, spacing, text_color, background_color, is_set, is_painted, character, glyphs, is_none, measured_height}
+use Rattle.line.specs.Line.{Font, character_width, character_height, spacing, text_color, background_color, is_set, is_painted, to_color, character, glyphs, is_none, measured_height}
 
--- the `_` of a match that has taken `None`
-not_none : (d : DecorationColor) → (d ≡ None → ⊥) → is_none d ≡ false
-not_none None e = absurd (e refl)
+-- the `_` of a match that has taken `NoColor`
+not_none : (d : DecorationColor) → (d ≡ NoColor → ⊥) → is_none d ≡ false
+not_none NoColor e = absurd (e refl)
 not_none TextColor e = refl
 not_none (Custom g) e = refl
 
-pub measured_underlined : (m : MonoFont) (s : MonoTextStyle) → (s.underline_color ≡ None → ⊥)
+pub measured_underlined : (m : MonoFont) (s : MonoTextStyle) → (s.underline_color ≡ NoColor → ⊥)
     → m.underline.offset + m.underline.height ≡ measured_height m s
 unfolding measured_height
 measured_underlined m s t = rw (not_none s.underline_color t)
@@ -36,9 +35,17 @@ module _ (s : MonoTextStyle) (t : Bool) (e : t ≡ is_set (text_color s)) where
   unfolding is_painted
   painted_background b h d = rw (← e, h) d
 
-unset : (color : OptionalGrey) → is_set color ≡ false → color ≡ Unset
-unset Unset e = refl
-unset (Set g) e = absurd (true≢false e)
+-- a colour that resolves
+pub resolved : (s : MonoTextStyle) (d : DecorationColor) (color : Option ℕ) (t : Bool) → color ≡ to_color s d → t ≡ is_some color → t ≡ is_set (to_color s d)
+resolved s d color t e f = f ∙ is_set_some color ∙ ap is_set e
+  where
+    is_set_some : (o : Option ℕ) → is_some o ≡ is_set o
+    is_set_some None = refl
+    is_set_some (Some g) = refl
+
+unset : (color : Option ℕ) → is_set color ≡ false → color ≡ None
+unset None e = refl
+unset (Some g) e = absurd (true≢false e)
 
 -- with neither grey set glyphs and gaps paint nothing
 module _ (f : Font) (s : MonoTextStyle) (top c r : ℕ) (e : is_painted s ≡ false) where

@@ -8,9 +8,8 @@ use mathlib.Core.Logic.{inl, inr}
 use lib.ListN.{length, length-map}
 use mir.Syntax.{w32}
 use mir.Val.{Fits}
+use Rattle.std.specs.Prelude.{Option, Some, None}
 use Rattle.geometry.specs.declared.Rectangle.{Rectangle}
-use Rattle.geometry.specs.declared.OptionalGrey.{OptionalGrey}
-use Rattle.geometry.specs.declared.OptionalGrey.TheVariants.{Unset, Set}
 use Rattle.geometry.specs.Rectangle.{rectangle, envelope, join}
 use Rattle.geometry.specs.Canvas.{EndsFit}
 use Rattle.geometry.specs.Layer.{transparent, filled}
@@ -97,10 +96,10 @@ module _ (m : MonoFont) (s : MonoTextStyle) (limits : FontLimits m) where
 
 module _ (c r : ℕ) where
   -- a decoration paints nothing outside its rows, and nothing at all without a grey
-  decoration-out : (d : DecorationDimensions) (color : OptionalGrey) (width x top grey : ℕ) → (is_set color ≡ true → In (rectangle x (top + d.offset) width d.height) c r → ⊥) → decoration d color width x top c r grey ≡ grey
+  decoration-out : (d : DecorationDimensions) (color : Option ℕ) (width x top grey : ℕ) → (is_set color ≡ true → In (rectangle x (top + d.offset) width d.height) c r → ⊥) → decoration d color width x top c r grey ≡ grey
   unfolding decoration filled
-  decoration-out d Unset width x top grey o = within_none (rectangle x (top + d.offset) width d.height) transparent (λ c r grey. refl) c r grey
-  decoration-out d (Set g) width x top grey o = filled_out (rectangle x (top + d.offset) width d.height) (Set g) c r grey (o refl)
+  decoration-out d None width x top grey o = within_none (rectangle x (top + d.offset) width d.height) transparent (λ c r grey. refl) c r grey
+  decoration-out d (Some g) width x top grey o = filled_out (rectangle x (top + d.offset) width d.height) (Some g) c r grey (o refl)
 
   -- a gap and a glyph paint nothing outside the gap and the cell
   pub character_out : (f : Font) (s : MonoTextStyle) (gap i x top grey : ℕ) → (In (rectangle x top (gap + character_width f.mono) (character_height f.mono)) c r → ⊥) → character f s gap i x top c r grey ≡ grey

@@ -9,7 +9,7 @@ use mathlib.Core.Path.{◌≡◌, refl, ap, ◌∙◌}
 use mathlib.Core.Bool.{Bool, true, false, cond}
 use mathlib.Core.List.{List, [], ◌∷◌, ◌++◌, map, map-append}
 use lib.ListN.{length, length-append, length-map}
-use Rattle.geometry.specs.declared.OptionalGrey.{OptionalGrey}
+use Rattle.std.specs.Prelude.{Option}
 use Rattle.geometry.proofs.Beside.{Joined, EndsAt, StartsAt, part_by_part, over_ends, filled_ends, filled_starts, filled_joined}
 use Rattle.characters.specs.Utf8.{chars, well_formed}
 use Rattle.characters.proofs.Parts.{chars-append}
@@ -23,15 +23,15 @@ use Rattle.line.proofs.Ink.{glyphs_out}
 -- ---- decorations and whitespace, at any spacing
 
 module _ (s : MonoTextStyle) (m : MonoFont) (v w x top : ℕ) where
-  decoration-joined : (d : DecorationDimensions) (color : OptionalGrey) → Joined (decoration d color (v + w) x top) (decoration d color v x top) (decoration d color w (x + v) top)
+  decoration-joined : (d : DecorationDimensions) (color : Option ℕ) → Joined (decoration d color (v + w) x top) (decoration d color v x top) (decoration d color w (x + v) top)
   unfolding decoration
   decoration-joined d color = filled_joined x (top + d.offset) v w d.height color
 
-  decoration-ends : (d : DecorationDimensions) (color : OptionalGrey) → EndsAt (x + v) (decoration d color v x top)
+  decoration-ends : (d : DecorationDimensions) (color : Option ℕ) → EndsAt (x + v) (decoration d color v x top)
   unfolding decoration
   decoration-ends d color = filled_ends x (top + d.offset) v d.height color
 
-  decoration-starts : (d : DecorationDimensions) (color : OptionalGrey) → StartsAt (x + v) (decoration d color w (x + v) top)
+  decoration-starts : (d : DecorationDimensions) (color : Option ℕ) → StartsAt (x + v) (decoration d color w (x + v) top)
   unfolding decoration
   decoration-starts d color = filled_starts (x + v) (top + d.offset) w d.height color
 

@@ -1,29 +1,18 @@
--- Layers painted on a draw target: one after another, and one that the target does not show. Assumes nothing.
+-- Layers that a draw target does not show. Assumes nothing.
 use Prim.Native.Nat.{ℕ, ◌+◌, ◌-◌, ◌≤◌, ◌<◌}
 use native.Mathlib.Omega.{arith}
-use mathlib.Core.Path.{◌≡◌, sym, ap, ◌∙◌}
+use mathlib.Core.Path.{◌≡◌, sym, ◌∙◌}
 use mathlib.Core.Bool.{true, false, true≢false}
 use mathlib.Core.List.{List}
 use mathlib.Core.Logic.{⊎_elim}
 use borrow.Author.Tests.{lt-leb}
 use Rattle.geometry.specs.declared.Rectangle.{Rectangle}
 use Rattle.geometry.specs.declared.DrawTarget.{DrawTarget}
-use Rattle.geometry.specs.Layer.{Layer, over, within}
+use Rattle.geometry.specs.Layer.{Layer}
 use Rattle.geometry.specs.Canvas.{paint_on}
 use Rattle.geometry.proofs.Rectangles.{In, in_or_out}
-use Rattle.geometry.proofs.Layers.{within_in, within_out, paint-over, paint_none, paint-same}
+use Rattle.geometry.proofs.Layers.{within_in, within_out, paint_none}
 use Rattle.line.specs.Clip.{disjoint}
-
-within-over : (a : Rectangle) (f g : Layer) (c r grey : ℕ) → over (within a g) (within a f) c r grey ≡ within a (over g f) c r grey
-within-over a f g c r grey = ⊎_elim
-    (λ i. within_in a g c r _ i ∙ ap (g c r) (within_in a f c r grey i) ∙ sym (within_in a (over g f) c r grey i))
-    (λ o. within_out a g c r _ o ∙ within_out a f c r grey o ∙ sym (within_out a (over g f) c r grey o))
-    (in_or_out a c r)
-
--- one layer painted on a draw target, then another
-pub paint_then : (t : DrawTarget) (f g : Layer) (xs ys zs : List ℕ) → ys ≡ paint_on t f xs → zs ≡ paint_on t g ys → zs ≡ paint_on t (over g f) xs
-paint_then t f g xs ys zs p q =
-    q ∙ ap (paint_on t g) p ∙ paint-over t.width _ _ xs ∙ paint-same t.width _ (within t.clip_area (over g f)) xs (within-over t.clip_area f g)
 
 -- a layer changes nothing outside an area
 abbrev pub Inside : Rectangle → Layer → Type 0

@@ -2,14 +2,13 @@
 use Prim.Native.Nat.{ℕ, ◌+◌, ◌-◌, ◌*◌}
 use native.Mathlib.Omega.{arith}
 use mathlib.Core.Path.{◌≡◌, refl, sym, ◌∙◌}
-use mathlib.Core.Bool.{Bool, true, false, not, cond, ◌||◌, false≢true}
+use mathlib.Core.Bool.{Bool, true, false, cond, ◌||◌, false≢true}
 use mathlib.Mathlib.Data.Bool.Basic.{or-eq-false-eq-eq-false-and-eq-false}
 use mathlib.Core.List.{List}
-use borrow.Author.Tests.{not-true}
 use lib.ListN.{length}
+use Rattle.std.specs.Prelude.{Option}
 use Rattle.geometry.specs.declared.Rectangle.{Rectangle}
 use Rattle.geometry.specs.declared.DrawTarget.{DrawTarget}
-use Rattle.geometry.specs.declared.OptionalGrey.{OptionalGrey}
 use Rattle.geometry.specs.Rectangle.{rectangle}
 use Rattle.geometry.specs.Layer.{filled}
 use Rattle.geometry.specs.Canvas.{paint_on}
@@ -24,7 +23,11 @@ use Rattle.line.specs.Line.{Font, character_width, character_height, spacing, te
 use Rattle.line.specs.declared.Columns.{Columns}
 use Rattle.line.specs.Clip.{disjoint, shows_glyphs, is_beside, Covers}
 use Rattle.line.proofs.Colors.{glyphs_unset}
-use Rattle.line.proofs.Painting.{paint_then, paint-disjoint, columns_disjoint, rows_disjoint}
+use Rattle.geometry.specs.declared.target.Frame.{Frame}
+use Rattle.geometry.specs.Painted.{Painted}
+use Rattle.geometry.proofs.Paintings.{painted_then}
+use Rattle.atlas.specs.declared.Atlas.{Atlas}
+use Rattle.line.proofs.Painting.{paint-disjoint, columns_disjoint, rows_disjoint}
 use Rattle.line.proofs.Ink.{character_out, glyphs_out}
 use Rattle.line.proofs.Unlisted.{beside_disjoint}
 
@@ -36,31 +39,33 @@ module _ (t : DrawTarget) (f : Font) (s : MonoTextStyle) (gap x top : ℕ) (xs :
       let area = rectangle x top (gap + character_width f.mono) (character_height f.mono) in
       paint-disjoint t area (character f s gap i x top) xs (λ c r grey o. character_out c r f s gap i x top grey o) (columns_disjoint t.clip_area area (beside_disjoint t.clip_area c x (gap + character_width f.mono) covers (sym e ∙ h)))
 
-  pub character_painted : (ch : ℕ) (g : Glyph) (ys zs : List ℕ) → g ≡ Mapping.glyph f.mapping f.mono.replacement_index ch
-      → ys ≡ paint_on t (filled (rectangle x top gap (character_height f.mono)) (background_color s)) xs
-      → zs ≡ paint_on t (glyph f.atlas f.mono.atlas (text_color s) (background_color s) g.index (x + gap) top) ys
-      → zs ≡ paint_on t (character f s gap (glyph_index f ch) x top) xs
-  unfolding character
-  character_painted ch g ys zs e p q = paint_then t _ _ xs ys zs p (rw e at q)
+-- a gap and a glyph painted in turn
+pub character_painted : (f : Font) (s : MonoTextStyle) (gap x top ch : ℕ) (bytes : List ℕ) (a : Atlas) (g : Glyph) (before middle after : Frame) → bytes ≡ f.atlas → a ≡ f.mono.atlas
+    → g ≡ Mapping.glyph f.mapping f.mono.replacement_index ch
+    → Painted before (filled (rectangle x top gap (character_height f.mono)) (background_color s)) middle
+    → Painted middle (glyph bytes a (text_color s) (background_color s) g.index (x + gap) top) after
+    → Painted before (character f s gap (glyph_index f ch) x top) after
+unfolding character
+character_painted f s gap x top ch bytes a g before middle after eb ea eg p q = painted_then before _ _ middle after p (rw (eb, ea, eg) at q)
 
-module _ (t : DrawTarget) (m : MonoFont) (s : MonoTextStyle) (width x top : ℕ) (xs ys zs : List ℕ) where
-  pub decorations_painted : (first second : OptionalGrey) → first ≡ to_color s s.strikethrough_color → second ≡ to_color s s.underline_color
-      → ys ≡ paint_on t (decoration m.strikethrough first width x top) xs → zs ≡ paint_on t (decoration m.underline second width x top) ys
-      → zs ≡ paint_on t (decorations m s width x top) xs
+module _ (m : MonoFont) (s : MonoTextStyle) (width x top : ℕ) (before middle after : Frame) where
+  pub decorations_painted : (first second : Option ℕ) → first ≡ to_color s s.strikethrough_color → second ≡ to_color s s.underline_color
+      → Painted before (decoration m.strikethrough first width x top) middle → Painted middle (decoration m.underline second width x top) after
+      → Painted before (decorations m s width x top) after
   unfolding decorations
-  decorations_painted first second e d p q = rw (← e, ← d) (paint_then t _ _ xs ys zs p q)
+  decorations_painted first second e d p q = rw (← e, ← d) (painted_then before _ _ middle after p q)
 
-  pub whitespace_painted : ys ≡ paint_on t (filled (rectangle x top width (character_height m)) (background_color s)) xs → zs ≡ paint_on t (decorations m s width x top) ys
-      → zs ≡ paint_on t (whitespace m s width x top) xs
+  pub whitespace_painted : Painted before (filled (rectangle x top width (character_height m)) (background_color s)) middle → Painted middle (decorations m s width x top) after
+      → Painted before (whitespace m s width x top) after
   unfolding whitespace
-  whitespace_painted p q = paint_then t _ _ xs ys zs p q
+  whitespace_painted p q = painted_then before _ _ middle after p q
 
 -- glyphs that the target does not show, or that take no grey
 module _ (t : DrawTarget) (f : Font) (s : MonoTextStyle) (is : List ℕ) (x top : ℕ) (xs : List ℕ) where
-  pub glyphs_unshown : (shows counts : Bool) → shows ≡ shows_glyphs t.clip_area f.mono s top → not (shows || counts) ≡ true → xs ≡ paint_on t (glyphs f s 0 is x top) xs
+  pub glyphs_unshown : (shows counts : Bool) → shows ≡ shows_glyphs t.clip_area f.mono s top → (shows || counts) ≡ false → xs ≡ paint_on t (glyphs f s 0 is x top) xs
   unfolding shows_glyphs
   glyphs_unshown shows counts e n =
-      let h = ((or-eq-false-eq-eq-false-and-eq-false shows counts).0 (not-true (shows || counts) n)).0 in
+      let h = ((or-eq-false-eq-eq-false-and-eq-false shows counts).0 n).0 in
       go (disjoint top (character_height f.mono) t.clip_area.top t.clip_area.height) refl (sym e ∙ h)
     where
       area : Rectangle
@@ -80,10 +85,10 @@ advance_shown clip m s n x top r t e h d = go (disjoint top (character_height m)
     go false true q = d
     go false false q = absurd (false≢true q)
 
-pub string_painted : (t : DrawTarget) (f : Font) (s : MonoTextStyle) (text : List ℕ) (x top next : ℕ) (xs ys zs : List ℕ) → next ≡ x + advance f.mono s (length (chars text))
-    → ys ≡ paint_on t (line_glyphs f s text x top) xs → zs ≡ paint_on t (decorations f.mono s (next - x) x top) ys
-    → zs ≡ paint_on t (string f s text x top) xs
+pub string_painted : (f : Font) (s : MonoTextStyle) (text : List ℕ) (x top next : ℕ) (before middle after : Frame) → next ≡ x + advance f.mono s (length (chars text))
+    → Painted before (line_glyphs f s text x top) middle → Painted middle (decorations f.mono s (next - x) x top) after
+    → Painted before (string f s text x top) after
 unfolding string
-string_painted t f s text x top next xs ys zs e p q =
+string_painted f s text x top next before middle after e p q =
     let w : next - x ≡ advance f.mono s (length (chars text)) = omega arith in
-    rw (← w) (paint_then t _ _ xs ys zs p q)
+    rw (← w) (painted_then before _ _ middle after p q)

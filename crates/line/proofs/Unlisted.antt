@@ -2,31 +2,26 @@
 -- Assumes nothing.
 use Prim.Native.Nat.{ℕ, ◌+◌, ◌-◌, ◌*◌, ◌≤◌}
 use native.Mathlib.Omega.{arith}
-use mathlib.Core.Path.{◌≡◌, refl, sym, ◌∙◌}
+use mathlib.Core.Path.{◌≡◌, refl, sym, ap, ◌∙◌}
+use Rattle.std.specs.Prelude.{Option, unwrap_or}
+use Rattle.std.specs.Bool.{then_some}
+use Rattle.std.specs.Int.{from_bool}
 use mathlib.Core.Bool.{Bool, true, false, not, cond, ◌||◌, or-true, true≢false}
 use mathlib.Mathlib.Data.Bool.Basic.{or-eq-false-eq-eq-false-and-eq-false}
 use mathlib.Core.List.{List, [], ◌∷◌, ◌++◌}
-use borrow.Author.Tests.{not-true, ltb-true, leb-true, le-ltb, lt-leb, le-leb}
+use borrow.Author.Tests.{ltb-true, leb-true, le-ltb, lt-leb, le-leb}
 use lib.Dec.{ltb, leb}
 use lib.ListN.{length}
 use Rattle.geometry.specs.declared.Rectangle.{Rectangle}
-use Rattle.geometry.specs.declared.DrawTarget.{DrawTarget}
-use Rattle.geometry.specs.Canvas.{Canvas}
 use Rattle.characters.specs.Utf8.{chars}
 use Rattle.characters.proofs.Folds.{length-chars}
 use Rattle.mapping.specs.declared.Glyph.{Glyph}
 use Rattle.mapping.specs.Mapping.{glyph, contains}
-use Rattle.mapping.specs.declared.Start.{Start}
-use Rattle.mapping.specs.Entries.{WithinLimit}
-use Rattle.mapping.specs.Search.{StartOf}
-use Rattle.atlas.specs.declared.Cells.{Cells}
-use Rattle.atlas.specs.Row.{CellsOf}
 use Rattle.line.specs.declared.Columns.{Columns}
 use Rattle.line.specs.declared.MonoFont.{MonoFont}
-use Rattle.line.specs.declared.MonoTextStyle.{MonoTextStyle}
 use Rattle.line.specs.Line.{character_width, spacing, unlisted}
 use Rattle.line.specs.Clip.{disjoint, is_beside, columns_of, Covers, met_character, met_unlisted}
-use Rattle.line.specs.Limits.{FontLimits, LineStyleOf}
+use Rattle.line.specs.Limits.{FontLimits}
 
 -- ---- counts that are asked for, or not
 
@@ -44,9 +39,9 @@ counted_few true n = omega arith
 counted_few false n = omega arith
 
 -- what is told where it is asked for is told
-pub counted_if : (counts : Bool) (m n r : ℕ) → (counts ≡ true → m ≡ n) → r ≡ cond counts m 0 → r ≡ cond counts n 0
-counted_if true m n r h e = e ∙ h refl
-counted_if false m n r h e = e
+pub counted_if : (counts : Bool) (m n r : ℕ) (told : Option ℕ) → (counts ≡ true → m ≡ n) → told ≡ then_some counts m → r ≡ unwrap_or told 0 → r ≡ cond counts n 0
+counted_if true m n r told h t e = e ∙ rw t (h refl)
+counted_if false m n r told h t e = e ∙ rw t
 
 -- those of two lists together
 pub unlisted-append : (mapping chs more : List ℕ) → unlisted mapping (chs ++ more) ≡ unlisted mapping chs + unlisted mapping more
@@ -74,19 +69,13 @@ pub all_columns : (clip : Rectangle) (counts : Bool) → counts ≡ true → rec
 unfolding columns_of
 all_columns clip counts e = rw e
 
-covers : (clip : Rectangle) (counts : Bool) (c : Columns) → clip.left + clip.width ≤ 0xFFFFFFFF → c ≡ columns_of clip counts → Covers clip c
+pub columns_cover : (clip : Rectangle) (counts : Bool) (c : Columns) → clip.left + clip.width ≤ 0xFFFFFFFF → c ≡ columns_of clip counts → Covers clip c
 unfolding columns_of
-covers clip counts c limit e = rw e (by counts)
+columns_cover clip counts c limit e = rw e (by counts)
   where
     by : (k : Bool) → Covers clip (columns_of clip k)
     by true = record { first = omega arith; end = limit }
     by false = record { first = omega arith; end = omega arith }
-
-pub style_made : (t : DrawTarget) (n : ℕ) (atlas mapping : List ℕ) (counts : Bool) (s : MonoTextStyle) (m : MonoFont) (cells : Cells) (start : Start) (c : Columns) → FontLimits m → WithinLimit mapping
-    → CellsOf m.atlas (length atlas) cells → StartOf mapping start → Canvas t n → c ≡ columns_of t.clip_area counts
-    → LineStyleOf atlas mapping t.clip_area (record { colors = s; font = m; cells = cells; start = start; columns = c })
-style_made t n atlas mapping counts s m cells start c f w g h canvas e =
-    record { limits = f; mapping_limit = w; cells = g; start = h; columns = covers t.clip_area counts c (omega (arith, canvas)) e }
 
 -- a character beside columns that cover a clip shares no column with it
 pub beside_disjoint : (clip : Rectangle) (c : Columns) (x width : ℕ) → Covers clip c → is_beside c x width ≡ true → disjoint x width clip.left clip.width ≡ true
@@ -104,11 +93,6 @@ pub met_beside : (c : Columns) (mapping : List ℕ) (width ch x n : ℕ) (t : Bo
 unfolding met_character
 met_beside c mapping width ch x n t e h = rw (← e, h) (omega arith)
 
-pub met_looked_up : (c : Columns) (mapping : List ℕ) (width ch x n r : ℕ) (t : Bool) → t ≡ is_beside c x width → t ≡ false → r ≡ n + cond (contains mapping ch) 0 1
-    → r ≡ n + met_character c mapping width ch x
-unfolding met_character
-met_looked_up c mapping width ch x n r t e h q = rw (← e, h) q
-
 pub met_small : (c : Columns) (mapping : List ℕ) (width ch x : ℕ) → met_character c mapping width ch x ≤ 1
 unfolding met_character
 met_small c mapping width ch x = by (is_beside c x width) (contains mapping ch)
@@ -118,14 +102,16 @@ met_small c mapping width ch x = by (is_beside c x width) (contains mapping ch)
     by false true = omega arith
     by false false = omega arith
 
-pub count_found : (mapping : List ℕ) (replacement ch n r : ℕ) (g : Glyph) → g ≡ glyph mapping replacement ch → r ≡ n + cond g.listed 0 1 → r ≡ n + cond (contains mapping ch) 0 1
-count_found mapping replacement ch n r g e q = rw e at q
-
-pub count_listed : (t : Bool) (n : ℕ) → t ≡ true → n ≡ n + cond t 0 1
-count_listed t n e = rw e (omega arith)
-
-pub count_unlisted : (t : Bool) (n : ℕ) → t ≡ false → n + 1 ≡ n + cond t 0 1
-count_unlisted t n e = rw e
+-- and counted, if it is not listed
+pub count_met : (c : Columns) (mapping : List ℕ) (width replacement ch x n more : ℕ) (g : Glyph) (t : Bool) → t ≡ is_beside c x width → t ≡ false → g ≡ glyph mapping replacement ch
+    → more ≡ from_bool (not g.listed) → n + more ≡ n + met_character c mapping width ch x
+unfolding met_character
+count_met c mapping width replacement ch x n more g t e h eg em =
+    ap (λ (k : ℕ). n + k) (em ∙ by g.listed ∙ rw (eg, ← e, h))
+  where
+    by : (u : Bool) → from_bool (not u) ≡ cond u 0 1
+    by true = refl
+    by false = refl
 
 -- ---- the characters of a line
 
@@ -159,5 +145,5 @@ module _ (clip : Rectangle) (m : MonoFont) (limits : FontLimits m) (mapping : Li
   met_counted text x r counts short near e h = (rw h at e) ∙ met_all 0 (chars text) x (omega arith) (omega (arith, length-chars text))
 
 -- where they are neither shown nor counted, none is asked for
-pub unasked : (shows counts : Bool) (n : ℕ) → not (shows || counts) ≡ true → counts ≡ true → 0 ≡ n
-unasked shows counts n h c = absurd (true≢false (sym c ∙ ((or-eq-false-eq-eq-false-and-eq-false shows counts).0 (not-true (shows || counts) h)).1))
+pub unasked : (shows counts : Bool) (n : ℕ) → (shows || counts) ≡ false → counts ≡ true → 0 ≡ n
+unasked shows counts n h c = absurd (true≢false (sym c ∙ ((or-eq-false-eq-eq-false-and-eq-false shows counts).0 h).1))

@@ -12,9 +12,9 @@ ghost use Rattle.line.specs.Lent.{lent, PreparedFor};
 
 use atlas::{Atlas, GlyphColors, ImageRaw};
 use characters::{Cursor, Step};
+pub use fonts::{Font, Metrics};
 use geometry::{Frame, Point, Rectangle};
 use mapping::Start;
-pub use fonts::{Font, Metrics};
 
 mod fonts;
 mod measuring;
@@ -97,6 +97,7 @@ struct PreparedLine<'a> {
 }
 
 // Whether none of the n numbers from a on is among the m from b on.
+#[tactic(auto, unfolding(crate::specs::Clip::disjoint))]
 fn disjoint(a: u32, n: u32, b: u32, m: u32) -> bool
     ensures { result ≡ disjoint a n b m }
 {
@@ -105,6 +106,7 @@ fn disjoint(a: u32, n: u32, b: u32, m: u32) -> bool
 
 impl Columns {
     // The columns of a clip, or all of them for characters that are counted.
+    #[tactic(auto, unfolding(crate::specs::Clip::columns_of))]
     fn of_clip(clip: Rectangle, counts: bool) -> Columns
         requires { ClipLimit clip }
         ensures { result ≡ columns_of clip counts }
@@ -123,6 +125,7 @@ impl Columns {
     }
 
     // Whether a character of a width at x stands beside them.
+    #[tactic(auto, unfolding(crate::specs::Clip::is_beside))]
     fn is_beside(self, x: u32, width: u32) -> bool
         requires { x + width < 2 ^ 32 }
         ensures { result ≡ is_beside self x width }
@@ -134,6 +137,7 @@ impl Columns {
 
 impl DecorationDimensions {
     // Draws a decoration of a line, as wide as the line is long.
+    #[tactic(auto, unfolding(crate::specs::Line::decoration))]
     fn draw(self, frame: &mut Frame, color: Option<u8>, corner: Point, width: u32)
         requires { DecorationLimits self corner.y }
         ensures { Painted frame.old (decoration self color width corner.x corner.y) frame.new }
@@ -150,6 +154,7 @@ impl DecorationDimensions {
 
 impl Metrics {
     // Whether the glyphs of a line with its top edge at `top` can change a pixel in a clip's rows.
+    #[tactic(auto, unfolding(crate::specs::Clip::shows_glyphs))]
     fn shows_glyphs(&self, clip: Rectangle, style: MonoTextStyle, top: u32) -> bool
         ensures { result ≡ shows_glyphs clip self.now.font style top }
     {
@@ -296,7 +301,10 @@ impl<'a> Line<'a> {
         ensures next_value { result.next ≡ corner.x + advance self.now.font.metrics.font self.now.style (length (chars self.now.text.now)) }
         ensures replaced_value { self.now.counts ≡ true → result.replaced ≡ unlisted self.now.font.mapping.now (chars self.now.text.now) }
     {
-        let shown = self.font.metrics.shows_glyphs(frame.target.clip_area, self.style, corner.y);
+        let shown = self
+            .font
+            .metrics
+            .shows_glyphs(frame.target.clip_area, self.style, corner.y);
         if !(shown | self.counts) {
             let next = self.next_x(corner.x);
             return DrawnLine { next, replaced: 0 };
@@ -319,8 +327,10 @@ impl<'a> Line<'a> {
     {
         let drawn = self.draw_characters(frame, corner);
         let width = drawn.next - corner.x;
-        self.font.metrics.draw_decorations(frame, self.style, corner, width);
-        let replaced = if self.counts { drawn.replaced } else { 0 };
+        self.font
+            .metrics
+            .draw_decorations(frame, self.style, corner, width);
+        let replaced = self.counts.then_some(drawn.replaced).unwrap_or(0);
         DrawnLine {
             next: drawn.next,
             replaced,

@@ -9,6 +9,7 @@ use geometry::{Point, Rectangle};
 
 impl MonoTextStyle {
     // Whether the characters take a grey at all.
+    #[tactic(auto, unfolding(crate::specs::Line::is_painted))]
     pub fn is_painted(self) -> bool
         ensures { result ≡ is_painted self }
     {
@@ -16,6 +17,7 @@ impl MonoTextStyle {
     }
 
     // The grey of a decoration.
+    #[tactic(auto, unfolding(crate::specs::Line::to_color))]
     pub fn to_color(self, color: DecorationColor) -> Option<u8>
         ensures { result ≡ to_color self color }
     {
@@ -41,6 +43,7 @@ fn rows_if(counts: bool, offset: u32, height: u32) -> Rectangle
 
 impl Metrics {
     // How far the top edge of a line is above its y.
+    #[tactic(auto, unfolding(crate::specs::Line::baseline_offset))]
     pub fn baseline_offset(&self, baseline: Baseline) -> u32
         ensures { result ≡ baseline_offset self.now.font baseline }
     {
@@ -76,6 +79,7 @@ impl Metrics {
     }
 
     // The measured width of a line.
+    #[tactic(auto, unfolding(crate::specs::Line::measured_width))]
     pub fn measured_width(&self, text: &[u8]) -> u32
         requires { LengthLimit (length text.now) }
         ensures { result ≡ measured_width self.now.font (length (chars text.now)) }
@@ -85,6 +89,7 @@ impl Metrics {
     }
 
     // The measured height of a line: the underline counts by its mode, drawn or not.
+    #[tactic(auto, unfolding(crate::specs::Line::measured_height))]
     fn measured_height(&self, style: MonoTextStyle) -> u32
         ensures { result ≡ measured_height self.now.font style }
     {
@@ -95,6 +100,7 @@ impl Metrics {
     }
 
     // The measured box of a line from `corner` on: its start and its top edge.
+    #[tactic(auto, unfolding(crate::specs::Line::measured_box))]
     pub fn measure_string(&self, text: &[u8], style: MonoTextStyle, corner: Point) -> Rectangle
         requires { LengthLimit (length text.now) }
         ensures { result ≡ measured_box self.now.font style (length (chars text.now)) corner.x corner.y }

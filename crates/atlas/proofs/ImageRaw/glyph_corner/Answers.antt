@@ -6,7 +6,7 @@ use Rattle.atlas.proofs.ImageRaw.glyph_corner.Goals.{then-width-eq0-via-then-wid
 
 pub returns-then-width-eq0 : goal.returns-then-width-eq0
 returns-then-width-eq0 c = corner_nowhere _ _ _ (λ d. elim c.then-width-eq0.branch [
-  then-width-eq0-via-then-width-eq0 w ↦ omega (arith, drawn_tests _ _ _ d, w.if-width-eq0.true)
+  | then-width-eq0-via-then-width-eq0 w ↦ omega (arith, drawn_tests _ _ _ d, w.if-width-eq0.true)
   | then-width-eq0-via-else-width-eq0+then-height-eq0 w ↦ omega (arith, drawn_tests _ _ _ d, w.if-height-eq0.true)
   | then-width-eq0-via-else-width-eq0+else-height-eq0+then-self-width w ↦ omega (arith, drawn_tests _ _ _ d, w.if-self-width.true)
 ])
