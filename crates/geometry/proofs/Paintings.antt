@@ -3,7 +3,7 @@ use Prim.Native.Nat.{ℕ}
 use mathlib.Core.Path.{◌≡◌, refl, ap, ◌∙◌}
 use mathlib.Core.List.{List}
 use Rattle.geometry.specs.declared.DrawTarget.{DrawTarget}
-use Rattle.geometry.specs.declared.target.Frame.{Frame}
+use Rattle.geometry.specs.declared.canvas.Frame.{Frame}
 use Rattle.geometry.specs.Layer.{Layer, over, within}
 use Rattle.geometry.specs.Canvas.{paint_on}
 use Rattle.geometry.specs.Painted.{Painted}

@@ -1,7 +1,7 @@
 -- A frame before a layer is painted on it and after. Assumes nothing.
 -- Serves contracts: nothing here has to be believed.
 use Rattle.std.specs.Prelude.{◌≡◌}
-use Rattle.geometry.specs.declared.target.Frame.{Frame}
+use Rattle.geometry.specs.declared.canvas.Frame.{Frame}
 use Rattle.geometry.specs.Layer.{Layer}
 use Rattle.geometry.specs.Canvas.{paint_on}
 

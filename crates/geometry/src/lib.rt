@@ -7,10 +7,10 @@ ghost use Rattle.std.specs.Prelude.{◌≡◌, ◌+◌, ◌-◌, min, max};
 ghost use Rattle.geometry.specs.Rectangle.{is_empty, envelope, join, intersection};
 ghost use Rattle.geometry.specs.Canvas.{EndsFit, StartsOnFrame, from_corner};
 
-pub use target::Frame;
+pub use canvas::Frame;
 
+mod canvas;
 mod filling;
-mod target;
 
 // The column and the row of the frame's corner.
 pub const ORIGIN: u32 = 2097152;

@@ -4,7 +4,7 @@ use native.Mathlib.Omega.{arith}
 use mathlib.Core.Path.{◌≡◌, refl, sym, ◌∙◌}
 use mathlib.Core.List.{List, map}
 use lib.ListN.{length}
-use Rattle.geometry.specs.declared.target.Frame.{Frame}
+use Rattle.geometry.specs.declared.canvas.Frame.{Frame}
 use Rattle.geometry.specs.Layer.{Layer, transparent}
 use Rattle.geometry.specs.Painted.{Painted}
 use Rattle.geometry.proofs.Layers.{within_none, paint_none}

@@ -23,7 +23,7 @@ use Rattle.line.specs.Line.{Font, character_width, character_height, spacing, te
 use Rattle.line.specs.declared.Columns.{Columns}
 use Rattle.line.specs.Clip.{disjoint, shows_glyphs, is_beside, Covers}
 use Rattle.line.proofs.Colors.{glyphs_unset}
-use Rattle.geometry.specs.declared.target.Frame.{Frame}
+use Rattle.geometry.specs.declared.canvas.Frame.{Frame}
 use Rattle.geometry.specs.Painted.{Painted}
 use Rattle.geometry.proofs.Paintings.{painted_then}
 use Rattle.atlas.specs.declared.Atlas.{Atlas}

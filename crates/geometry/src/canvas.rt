@@ -6,6 +6,7 @@ use crate::filling::fill_area;
 use crate::{DrawTarget, Rectangle};
 
 // A frame that is drawn on: its greys, row by row, and its sides with the area in which they may change.
+#[derive(Drop)]
 pub struct Frame<'a> {
     pub greys: &'a mut [u8],
     pub target: DrawTarget,
