@@ -1,18 +1,23 @@
 -- `skip` and the functions that it calls: a law for each fact that a turn of their loops needs. Assumes nothing.
 use mathlib.Core.Path.{◌≡◌, refl, sym, ◌∙◌, ap}
-use mathlib.Core.Bool.{Bool, true, false, cond, and-eq-true_iff}
+use mathlib.Core.Bool.{Bool, true, false, not, cond, and-eq-true_iff}
 use mathlib.Core.List.{List}
 use mathlib.Mathlib.Data.Bool.Basic.{dichotomy}
 use mathlib.Core.Logic.{⊎_elim}
-use Prim.Native.Nat.{ℕ, zero, suc, ◌+◌, ◌-◌, ◌<◌, ◌≤◌, min, max}
+use Prim.Native.Nat.{ℕ, zero, suc, ◌+◌, ◌-◌, ◌*◌, ◌/◌, ◌%◌, ◌<◌, ◌≤◌, min, max}
 use native.Mathlib.Numerals.{add-one}
 use native.Mathlib.Omega.{arith}
 use native.Mathlib.Decide.{dec_lt}
 use borrow.Author.Tests.{ne_eqb, eqb-true, not-false}
-use lib.ListN.{length, get_or, get_or-eq_default}
+use lib.ListN.{length, get_or, take, drop, length-drop}
+use Rattle.std.proofs.Math.Seq.{take-length}
+use Rattle.std.proofs.lemmas.List.{get_or-drop}
+use Rattle.std.proofs.lemmas.List.Sums.{fails_before_first, prefix_len-le-length, prefix_len_stops}
+use Rattle.std.specs.List.{position_or_len}
 use mir.Val.{Fits}
 use mir.Syntax.{w8, w64}
 use lib.Dec.{eqb}
+use Rattle.std.specs.Int.{from_bool}
 use Rattle.characters.specs.Utf8.{is_continuation}
 use Rattle.mapping.specs.declared.search.Needle.{Needle}
 use Rattle.mapping.specs.declared.search.Block.{Block}
@@ -20,19 +25,40 @@ use Rattle.mapping.specs.declared.search.Passed.{Passed}
 use Rattle.mapping.specs.Search.{is_lead, leads, may_begin, may_begin_at, before, needle_of, OfBlock, OfHit, Below, SkipsBelow, Passes, Skips, IsNeedle}
 use Rattle.mapping.proofs.Sequences.{continues}
 
--- past the end
-pub byte_past : (s : List ℕ) (at by : ℕ) → length s - at ≤ by → 0 ≡ get_or s (at + by) 0
-byte_past s at by h = sym (get_or-eq_default s 0 (omega arith))
-
 pub begins_read : (s : List ℕ) (p : Needle) (at a b c d : ℕ) (t : Bool) → t ≡ may_begin p a b c d → a ≡ get_or s at 0 → b ≡ get_or s (at + p.near) 0
     → c ≡ get_or s (at + p.mid) 0 → d ≡ get_or s (at + p.end) 0 → t ≡ may_begin_at s p at
 begins_read s p at a b c d t e x y z w = e ∙ rw (x, y, z, w)
+
+-- ---- the bytes from a position on
+
+abbrev pub rest : List ℕ → ℕ → List ℕ
+rest s at = take (length s - at) (drop at s)
+
+module _ (s : List ℕ) (at : ℕ) where
+  rest_is : rest s at ≡ drop at s
+  rest_is = rw (← length-drop at s) (take-length (drop at s))
+
+  rest_byte : (i : ℕ) → get_or (rest s at) i 0 ≡ get_or s (at + i) 0
+  rest_byte i = ap (λ l. get_or l i 0) rest_is ∙ get_or-drop at s i 0
+
+  rest_length : length (rest s at) ≡ length s - at
+  rest_length = ap length rest_is ∙ length-drop at s
+
+  pub begins_rest : (p : Needle) (b c d : ℕ) (t : Bool) → t ≡ may_begin p (get_or (rest s at) 0 0) b c d → b ≡ get_or (rest s at) p.near 0
+      → c ≡ get_or (rest s at) p.mid 0 → d ≡ get_or (rest s at) p.end 0 → t ≡ may_begin_at s p at
+  begins_rest p b c d t e y z w =
+      let o : at + 0 ≡ at = omega arith in
+      begins_read s p at (get_or (rest s at) 0 0) b c d t e (rest_byte 0 ∙ rw o) (y ∙ rest_byte p.near) (z ∙ rest_byte p.mid) (w ∙ rest_byte p.end)
 
 -- ---- lead bytes
 
 one_le : (t : Bool) → cond {A = ℕ} t 1 0 ≤ 1
 one_le true = omega arith
 one_le false = omega arith
+
+one_is : (t : Bool) → from_bool t ≡ cond {A = ℕ} t 1 0
+one_is true = refl
+one_is false = refl
 
 pub leads_le : (s : List ℕ) (at n : ℕ) → leads s at n ≤ n
 unfolding leads
@@ -76,21 +102,21 @@ module _ (s : List ℕ) (at : ℕ) where
   counted_start n = let m : min 0 n ≡ 0 = omega arith in rw m
 
   -- one byte more
-  pub leads_more : (i n v b : ℕ) (t : Bool) → n ≡ leads s at i → t ≡ is_lead b → b ≡ get_or s (at + i) 0 → v ≡ cond t 1 0 → n + v ≡ leads s at (i + 1)
+  pub leads_more : (i n v b : ℕ) (t : Bool) → n ≡ leads s at i → t ≡ is_lead b → b ≡ get_or s (at + i) 0 → v ≡ from_bool t → n + v ≡ leads s at (i + 1)
   unfolding leads
-  leads_more i n v b t e f g h = rw (add-one i, e, h, f, g)
+  leads_more i n v b t e f g h = rw (add-one i, e, h, one_is t, f, g)
 
-  pub leads-fits : (i n v : ℕ) (t : Bool) → i < 128 → n ≡ leads s at i → v ≡ cond t 1 0 → Fits w8 (n + v)
-  leads-fits i n v t l e h = omega (arith, leads_le s at i, one_le t)
+  pub leads-fits : (i n v : ℕ) (t : Bool) → i < 128 → n ≡ leads s at i → v ≡ from_bool t → Fits w8 (n + v)
+  leads-fits i n v t l e h = omega (arith, leads_le s at i, one_is t, one_le t)
 
   -- one byte more, of those before n
-  pub counted_more : (n i k x y v b passed : ℕ) (t : Bool) → passed ≡ i → k ≡ leads s at (min i n) → t ≡ is_lead b → b ≡ get_or s (at + i) 0
-      → x ≡ cond t 1 0 → y ≡ n - passed → v ≡ min x y → k + v ≡ leads s at (min (i + 1) n)
-  counted_more n i k x y v b passed t p e f g h w u = elim (dec_lt i n) [
+  pub counted_more : (n i k x y v b p : ℕ) (t : Bool) → p ≡ i → k ≡ leads s at (min i n) → t ≡ is_lead b → b ≡ get_or s (at + i) 0
+      → x ≡ from_bool t → y ≡ n - p → v ≡ min x y → k + v ≡ leads s at (min (i + 1) n)
+  counted_more n i k x y v b p t q e f g h w u = elim (dec_lt i n) [
     | yes l ↦ (
         let m : min i n ≡ i = omega arith in
         let m' : min (i + 1) n ≡ i + 1 = omega arith in
-        rw m' (leads_more i k v b t (rw m at e) f g (let o = one_le t in omega arith))
+        rw m' (leads_more i k v b t (rw m at e) f g (let o = one_le t in let z = one_is t in omega arith))
         )
     | no l ↦ (
         let m : min (i + 1) n ≡ min i n = omega arith in
@@ -98,21 +124,22 @@ module _ (s : List ℕ) (at : ℕ) where
         )
   ]
 
-  pub counted-fits : (n i k x y v : ℕ) (t : Bool) → i < 64 → k ≡ leads s at (min i n) → x ≡ cond t 1 0 → v ≡ min x y → Fits w8 (k + v)
-  counted-fits n i k x y v t l e h w = omega (arith, leads_le s at (min i n), one_le t)
+  pub counted-fits : (n i k x y v : ℕ) (t : Bool) → i < 64 → k ≡ leads s at (min i n) → x ≡ from_bool t → v ≡ min x y → Fits w8 (k + v)
+  counted-fits n i k x y v t l e h w = omega (arith, leads_le s at (min i n), one_is t, one_le t)
 
   pub counted-all : (n i k : ℕ) → n ≤ 64 → 64 ≤ i → k ≡ leads s at (min i n) → k ≡ leads s at n
   counted-all n i k h l e = let m : min i n ≡ n = omega arith in rw m at e
 
   -- ---- 128 bytes
 
-  pub bounded_more : (i most x m b : ℕ) → ((j : ℕ) → j < i → before (get_or s (at + j) 0) ≤ most) → x ≡ before b → b ≡ get_or s (at + i) 0 → m ≡ max most x
+  pub bounded_more : (i most m b : ℕ) → ((j : ℕ) → j < i → before (get_or s (at + j) 0) ≤ most) → b ≡ get_or s (at + i) 0 → m ≡ max most ((b + 255) % 256)
       → (j : ℕ) → j < i + 1 → before (get_or s (at + j) 0) ≤ m
-  bounded_more i most x m b h e f g j l = elim (dec_lt j i) [
+  unfolding before
+  bounded_more i most m b h f g j l = elim (dec_lt j i) [
     | yes k ↦ omega (arith, h j k)
     | no k ↦ (
         let q : j ≡ i = omega arith in
-        let y : x ≡ before (get_or s (at + j) 0) = rw (q, ← f) e in
+        let y : b ≡ get_or s (at + j) 0 = rw q f in
         omega arith
         )
   ]
@@ -126,24 +153,24 @@ module _ (s : List ℕ) (at : ℕ) where
   -- ---- 64 bytes
 
   module _ (p : Needle) where
-    pub hit_more : (i found left v f a b c d : ℕ) (t : Bool) → ((j : ℕ) → j < i → j + found < 64 → may_begin_at s p (at + j) ≡ false) → left + i ≡ 64
-        → t ≡ may_begin p a b c d → a ≡ get_or s (at + i) 0 → b ≡ get_or s (at + i + p.near) 0 → c ≡ get_or s (at + i + p.mid) 0 → d ≡ get_or s (at + i + p.end) 0
-        → v ≡ cond t left 0 → f ≡ max found v → (j : ℕ) → j < i + 1 → j + f < 64 → may_begin_at s p (at + j) ≡ false
-    hit_more i found left v f a b c d t h e o x y z w u g j l m = elim (dec_lt j i) [
-      | yes k ↦ h j k (omega arith)
-      | no k ↦ (
-          let q : j ≡ i = omega arith in
-          let r : t ≡ may_begin_at s p (at + j) = rw q (begins_read s p (at + i) a b c d t o x y z w) in
-          ⊎_elim (λ n. sym r ∙ n) (λ n. absurd (let y : v ≡ left = u ∙ rw n in omega arith)) (dichotomy t)
-          )
-    ]
+    module _ (i found : ℕ) (h : (j : ℕ) → j < i → j + found < 64 → may_begin_at s p (at + j) ≡ false) where
+      pub hit_found : (m f : ℕ) → m ≡ max found (64 - i) → f ≡ m → (j : ℕ) → j < i + 1 → j + f < 64 → may_begin_at s p (at + j) ≡ false
+      hit_found m f e g j l k = h j (omega arith) (omega arith)
+
+      pub hit_none : (f a b c d : ℕ) (t : Bool) → t ≡ may_begin p a b c d → a ≡ get_or s (at + i) 0 → b ≡ get_or s (at + i + p.near) 0
+          → c ≡ get_or s (at + i + p.mid) 0 → d ≡ get_or s (at + i + p.end) 0 → t ≡ false → f ≡ found
+          → (j : ℕ) → j < i + 1 → j + f < 64 → may_begin_at s p (at + j) ≡ false
+      hit_none f a b c d t o x y z w n g j l k = elim (dec_lt j i) [
+        | yes q ↦ h j q (omega arith)
+        | no q ↦ (
+            let e : j ≡ i = omega arith in
+            let r : t ≡ may_begin_at s p (at + j) = rw e (begins_read s p (at + i) a b c d t o x y z w) in
+            sym r ∙ n
+            )
+      ]
 
     pub hit_whole : (i f : ℕ) → 64 ≤ i → f ≤ 64 → ((j : ℕ) → j < i → j + f < 64 → may_begin_at s p (at + j) ≡ false) → OfHit s p at f
     hit_whole i f l h b = record { most = h; clear = λ j k. b j (omega arith) k }
-
-pub hit_fits : (found left v f i : ℕ) (t : Bool) → found ≤ 64 → left + i ≡ 64 → v ≡ cond t left 0 → f ≡ max found v → f ≤ 64
-hit_fits found left v f i true h e w g = omega arith
-hit_fits found left v f i false h e w g = omega arith
 
 -- ---- bytes that are passed over
 
@@ -179,24 +206,38 @@ module _ (s : List ℕ) (limit from : ℕ) where
   pub below_none : from ≤ length s → Below s limit from (record { at = from; count = 0 })
   below_none h = record { forward = omega arith; within = h; counted = leads-none-yet s from; low = λ q a b. absurd (omega arith) }
 
-  module _ (at k : ℕ) (g : Below s limit from (record { at = at; count = k })) (b : Block) (o : OfBlock s at b) (h : 128 ≤ length s - at) (v : ℕ) (w : v ≡ b.leads) where
-    pub below_block : (m : ℕ) → m ≡ before limit → b.most < m → Below s limit from (record { at = at + 128; count = k + v })
-    below_block m e l = record {
-      forward = omega arith;
-      within = omega arith;
-      counted = leads-on s from at k 128 v g.forward g.counted (w ∙ o.counted);
-      low = λ q x y. elim (dec_lt q at) [
-        | yes z ↦ g.low q x z
-        | no z ↦ (
-            let j : at + (q - at) ≡ q = omega arith in
-            let i : before (get_or s q 0) ≤ b.most = rw j at (o.bounded (q - at) (omega arith)) in
-            omega arith
-            )
-      ];
-    }
+  -- no block yet
+  pub below_start : from ≤ length s → Below s limit from (record { at = from + 0; count = 0 })
+  below_start h = let e : from + 0 ≡ from = omega arith in rw e (below_none h)
 
-    pub block_fits : Fits w64 (length s) → Fits w64 (k + v)
-    block_fits f = leads-fit s from at k 128 v g.forward g.counted (omega (arith, leads_le s at 128, o.counted)) (omega arith) f
+  module _ (k n : ℕ) (g : Below s limit from (record { at = from + 128 * k; count = n })) where
+    -- a block more
+    module _ (blocks : ℕ) (e : blocks ≡ (length s - from) / 128) (l : k < blocks) (b : Block) (o : OfBlock s (from + 128 * k) b) (v : ℕ) (w : v ≡ b.leads) where
+      pub below_block : (m : ℕ) → m ≡ (limit + 255) % 256 → b.most < m → Below s limit from (record { at = from + 128 * (k + 1); count = n + v })
+      unfolding before
+      below_block m i h =
+          let z : from + 128 * (k + 1) ≡ from + 128 * k + 128 = omega arith in
+          rw z (record {
+            forward = omega arith;
+            within = omega arith;
+            counted = leads-on s from (from + 128 * k) n 128 v g.forward g.counted (w ∙ o.counted);
+            low = λ q x y. elim (dec_lt q (from + 128 * k)) [
+              | yes z ↦ g.low q x z
+              | no z ↦ (
+                  let j : from + 128 * k + (q - (from + 128 * k)) ≡ q = omega arith in
+                  let t : before (get_or s q 0) ≤ b.most = rw j at (o.bounded (q - (from + 128 * k)) (omega arith)) in
+                  omega arith
+                  )
+            ];
+          })
+
+      pub block_fits : Fits w64 (length s) → Fits w64 (n + v)
+      block_fits f =
+          leads-fit s from (from + 128 * k) n 128 v g.forward g.counted (omega (arith, leads_le s (from + 128 * k) 128, o.counted)) (omega arith) f
+
+    -- no block is left
+    pub below_blocks : (blocks : ℕ) → blocks ≤ k → k ≤ blocks → Below s limit from (record { at = from + 128 * blocks; count = n })
+    below_blocks blocks h l = let e : blocks ≡ k = omega arith in rw e g
 
   module _ (r : Passed) (g : Below s limit from r) where
     below-passes : (p : Needle) → before limit ≤ before p.lead → Passes s p from r
@@ -211,36 +252,50 @@ module _ (s : List ℕ) (limit from : ℕ) where
   skips_below_none h = record { below = below_none h; boundary = λ l. absurd (omega arith) }
 
   -- for a character whose sequence begins with the limit or a higher byte
-  pub skips_from : (r : Passed) → SkipsBelow s limit from r → (ch lead x y : ℕ) → lead ≡ (needle_of ch).lead → x ≡ before limit → y ≡ before lead
+  pub skips_from : (r : Passed) → SkipsBelow s limit from r → (ch lead x y : ℕ) → lead ≡ (needle_of ch).lead → x ≡ (limit + 255) % 256 → y ≡ (lead + 255) % 256
       → from < r.at → x ≤ y → Skips s (needle_of ch) from r
+  unfolding before
   skips_from r g ch lead x y e f i h l =
       record { passes = below-passes r g.below (needle_of ch) (rw (← e, ← f, ← i) l); boundary = g.boundary h }
 
-  module _ (at k : ℕ) (g : Below s limit from (record { at = at; count = k })) where
-    -- a byte that continues a sequence is below every byte with which one of several begins
-    pub below_more : (t : Bool) → 0xC0 ≤ limit → Fits w8 limit → at < length s → t ≡ is_lead (get_or s at 0) → t ≡ false → Below s limit from (record { at = at + 1; count = k })
-    below_more t m n h e f =
-        let z : at + 0 ≡ at = omega arith in
-        let none : 0 ≡ leads s at 1 = sym (leads_none s at 1 (λ j l. let i : j ≡ 0 = omega arith in rw (i, z) (sym e ∙ f))) in
-        let i : k + 0 ≡ k = omega arith in
+  -- on to the first lead byte: a byte that continues a sequence is below every byte with which one of several begins
+  module _ (r : Passed) (g : Below s limit from r) (n : ℕ) (e : n ≡ position_or_len is_lead (rest s r.at)) where
+    lead_within : n ≤ length s - r.at
+    lead_within = omega (arith, prefix_len-le-length (λ b. not (is_lead b)) (rest s r.at), rest_length s r.at)
+
+    pub lead_fits : Fits w64 (length s) → Fits w64 (r.at + n)
+    lead_fits f = let l = lead_within in let w = g.within in omega arith
+
+    continued : (j : ℕ) → j < n → is_lead (get_or s (r.at + j) 0) ≡ false
+    continued j l = rw (← rest_byte s r.at j) (fails_before_first is_lead (rest s r.at) j 0 (rw e at l))
+
+    pub skips_on : 0xC0 ≤ limit → Fits w8 limit → SkipsBelow s limit from (record { at = r.at + n; count = r.count })
+    skips_on m f =
+        let none : 0 ≡ leads s r.at n = sym (leads_none s r.at n continued) in
+        let i : r.count + 0 ≡ r.count = omega arith in
+        let l = lead_within in
+        let w = g.within in
         record {
-          forward = omega arith;
-          within = omega arith;
-          counted = rw i at (leads-on s from at k 1 0 g.forward g.counted none);
-          low = λ q x y. elim (dec_lt q at) [
-            | yes l ↦ g.low q x l
-            | no l ↦ let j : q ≡ at = omega arith in rw j (before_continued limit (get_or s at 0) m n (sym e ∙ f))
-          ];
+          below = record {
+            forward = omega arith;
+            within = omega arith;
+            counted = rw i at (leads-on s from r.at r.count n 0 g.forward g.counted none);
+            low = λ q x y. elim (dec_lt q r.at) [
+              | yes l ↦ g.low q x l
+              | no l ↦ (
+                  let j : r.at + (q - r.at) ≡ q = omega arith in
+                  before_continued limit (get_or s q 0) m f (rw j at (continued (q - r.at) (omega arith)))
+                  )
+            ];
+          };
+          boundary = λ x y.
+              let z : position_or_len is_lead (rest s r.at) < length (rest s r.at) = omega (arith, rest_length s r.at) in
+              let t = prefix_len_stops (λ b. not (is_lead b)) (rest s r.at) 0 z in
+              rw (e, ← rest_byte s r.at (position_or_len is_lead (rest s r.at))) (not-false _ t);
         }
 
-    pub below_lead : (t : Bool) → t ≡ is_lead (get_or s at 0) → t ≡ true → SkipsBelow s limit from (record { at = at; count = k })
-    below_lead t e y = record { below = g; boundary = λ l h. sym e ∙ y }
-
-    pub below_past : length s ≤ at → SkipsBelow s limit from (record { at = at; count = k })
-    below_past h = record { below = g; boundary = λ l m. absurd (omega arith) }
-
-pub passes_lead : (s : List ℕ) (p : Needle) (from : ℕ) (r : Passed) → Below s p.lead from r → Passes s p from r
-passes_lead s p from r g = below-passes s p.lead from r g p (omega arith)
+pub passes_lead : (s : List ℕ) (p : Needle) (from : ℕ) (r : Passed) → Below s p.lead from r → Passes s p from (record { at = r.at + 0; count = r.count })
+passes_lead s p from r g = let e : r.at + 0 ≡ r.at = omega arith in rw e (below-passes s p.lead from r g p (omega arith))
 
 -- ---- bytes with which nothing begins
 
@@ -264,38 +319,45 @@ module _ (s : List ℕ) (p : Needle) (from : ℕ) where
       ];
     }
 
-    pub through_fits : (u v : ℕ) → u ≡ leads s at 64 → v ≡ u → 67 ≤ length s - at → Fits w64 (length s) → Fits w64 (k + v)
-    through_fits u v e w h f = passes-fits 64 v (omega (arith, leads_le s at 64)) (omega arith) f
-
-    pub passes_through : (left u v : ℕ) → OfHit s p at left → left ≤ 0 → 67 ≤ length s - at → u ≡ leads s at 64 → v ≡ u
-        → Passes s p from (record { at = at + 64; count = k + v })
-    passes_through left u v o z h w x = passes-more 64 v (omega arith) (x ∙ w) (λ j l. o.clear j (omega arith))
-
-    pub upto_fits : (left n u v : ℕ) → OfHit s p at left → n ≡ 64 - left → u ≡ leads s at n → v ≡ u → 67 ≤ length s - at → Fits w64 (length s) → Fits w64 (k + v)
-    upto_fits left n u v o l e w h f = passes-fits n v (omega (arith, leads_le s at n)) (omega arith) f
-
-    pub passes_hit : (left n m v u : ℕ) → OfHit s p at left → n ≡ 64 - left → m ≡ n → 67 ≤ length s - at → u ≡ leads s at n → v ≡ u
-        → Passes s p from (record { at = at + m; count = k + v })
-    passes_hit left n m v u o e f h w x =
-        rw f (passes-more n v (omega arith) (x ∙ w) (λ j l. o.clear j (omega arith)))
-
     -- byte by byte
 
-    pub byte_fits : (v w : ℕ) (t : Bool) → at < length s → w ≡ cond t 1 0 → v ≡ w → Fits w64 (length s) → Fits w64 (k + v)
-    byte_fits v w t h e x f = passes-fits 1 v (let o = one_le t in omega arith) (omega arith) f
+    pub byte_fits : (v : ℕ) (t : Bool) → at < length s → v ≡ from_bool t → Fits w64 (length s) → Fits w64 (k + v)
+    byte_fits v t h e f = passes-fits 1 v (let o = one_le t in let z = one_is t in omega arith) (omega arith) f
 
-    pub passes_byte : (v w : ℕ) (t u : Bool) → at < length s → u ≡ may_begin_at s p at → u ≡ false → t ≡ is_lead (get_or s at 0) → w ≡ cond t 1 0 → v ≡ w
+    pub passes_byte : (v : ℕ) (t u : Bool) → at < length s → u ≡ may_begin_at s p at → u ≡ false → t ≡ is_lead (get_or s at 0) → v ≡ from_bool t
         → Passes s p from (record { at = at + 1; count = k + v })
     unfolding leads
-    passes_byte v w t u h o n f e x =
+    passes_byte v t u h o n f e =
         let z : at + 0 ≡ at = omega arith in
-        passes-more 1 v (omega arith) (rw z (x ∙ e ∙ rw f (omega arith))) (λ j l. let i : j ≡ 0 = omega arith in rw (i, z, ← o) n)
+        passes-more 1 v (omega arith) (rw z (e ∙ one_is t ∙ rw f (omega arith))) (λ j l. let i : j ≡ 0 = omega arith in rw (i, z, ← o) n)
 
     pub skips_begin : (u : Bool) → IsNeedle p → u ≡ may_begin_at s p at → u ≡ true → Skips s p from (record { at = at; count = k })
     skips_begin u i o y = record { passes = g; boundary = λ h. begins_lead p _ _ _ _ i.leads (sym o ∙ y) }
 
-    pub skips_past : length s ≤ at → Skips s p from (record { at = at; count = k })
-    skips_past h = record { passes = g; boundary = λ l. absurd (omega arith) }
+    pub skips_past : length s ≤ at → at ≤ length s → Skips s p from (record { at = length s; count = k })
+    skips_past h l = let e : length s ≡ at = omega arith in rw e (record { passes = g; boundary = λ l. absurd (omega arith) })
+
+  -- 64 bytes after `base`, k times
+  module _ (base k n : ℕ) (g : Passes s p from (record { at = base + 64 * k; count = n })) where
+    module _ (r : ℕ) (e : r ≡ length s - base - 3) (l : k < r / 64) (left : ℕ) (o : OfHit s p (base + 64 * k) left) where
+      pub through_fits : (u v : ℕ) → u ≡ leads s (base + 64 * k) 64 → v ≡ u → Fits w64 (length s) → Fits w64 (n + v)
+      through_fits u v i w f = passes-fits (base + 64 * k) n g 64 v (omega (arith, leads_le s (base + 64 * k) 64)) (omega arith) f
+
+      pub passes_through : (u v : ℕ) → left ≤ 0 → u ≡ leads s (base + 64 * k) 64 → v ≡ u
+          → Passes s p from (record { at = base + 64 * (k + 1); count = n + v })
+      passes_through u v z w x =
+          let i : base + 64 * (k + 1) ≡ base + 64 * k + 64 = omega arith in
+          rw i (passes-more (base + 64 * k) n g 64 v (omega arith) (x ∙ w) (λ j l. o.clear j (omega arith)))
+
+      module _ (m u v : ℕ) (i : m ≡ 64 - left) (w : u ≡ leads s (base + 64 * k) m) (x : v ≡ u) where
+        pub upto_fits : Fits w64 (length s) → Fits w64 (n + v)
+        upto_fits f = passes-fits (base + 64 * k) n g m v (omega (arith, leads_le s (base + 64 * k) m)) (omega arith) f
+
+        pub passes_hit : (z : ℕ) → z ≡ m → Passes s p from (record { at = base + 64 * k + z; count = n + v })
+        passes_hit z f = rw f (passes-more (base + 64 * k) n g m v (omega arith) (x ∙ w) (λ j l. o.clear j (omega arith)))
+
+    pub passes_all : (hits : ℕ) → hits ≤ k → k ≤ hits → Passes s p from (record { at = base + 64 * hits; count = n })
+    passes_all hits h l = let e : hits ≡ k = omega arith in rw e g
 
 module _ (s : List ℕ) (p : Needle) (from : ℕ) (g r : Passed) (a : Passes s p from g) (b : Skips s p g.at r) where
   pub join-fits : Fits w64 (length s) → Fits w64 (g.count + r.count)

@@ -13,10 +13,9 @@ use Rattle.characters.specs.Refusal.{need}
 use Rattle.characters.specs.Utf8.{is_surrogate, well_formed}
 use Rattle.characters.proofs.Steps.{cond_both, IsScalar}
 use Rattle.characters.proofs.Folds.{chars-scalar}
-use Rattle.mapping.specs.declared.Found.{Found}
-use Rattle.mapping.specs.declared.Found.TheVariants.{At, Nothing}
+use Rattle.std.specs.Prelude.{Option, Some, None, unwrap_or, is_some}
 use Rattle.mapping.specs.Entries.{WithinLimit}
-use Rattle.mapping.specs.Mapping.{scalars_from, from_to, spelled, list_of, place_from, place_or, is_found, index, contains, refusal}
+use Rattle.mapping.specs.Mapping.{scalars_from, from_to, spelled, list_of, place_from, index, contains, refusal}
 use Rattle.mapping.proofs.Places.{place_below}
 
 -- ---- no surrogate and no number above 10FFFF is listed
@@ -50,11 +49,11 @@ module _ {ch : ℕ} where
 
 -- ---- positions
 
-found_member : (k ch : ℕ) (l : List ℕ) → is_found (place_from k ch l) ≡ true → Memᴰ ch l
+found_member : (k ch : ℕ) (l : List ℕ) → is_some (place_from k ch l) ≡ true → Memᴰ ch l
 unfolding place_from
 found_member k ch [] = λ e. absurd (true≢false (sym e))
 found_member k ch (x ∷ l) =
-    cond_both (λ f. is_found f ≡ true → Memᴰ ch (x ∷ l)) (eqb x ch) _ _
+    cond_both (λ (f : Option ℕ). is_some f ≡ true → Memᴰ ch (x ∷ l)) (eqb x ch) _ _
     (λ q e. Memᴰ.head (sym (eqb-true x ch q)))
     (λ q e. Memᴰ.tail (found_member (suc k) ch l e))
 
@@ -66,16 +65,16 @@ module _ (mapping : List ℕ) (replacement ch : ℕ) where
   pub index-unlisted : contains mapping ch ≡ false → index mapping replacement ch ≡ replacement
   index-unlisted = by (place_from 0 ch (list_of mapping))
     where
-      by : (f : Found) → is_found f ≡ false → place_or replacement f ≡ replacement
-      by (At k) e = absurd (true≢false e)
-      by Nothing e = refl
+      by : (f : Option ℕ) → is_some f ≡ false → unwrap_or f replacement ≡ replacement
+      by (Some k) e = absurd (true≢false e)
+      by None e = refl
 
   pub index_listed : contains mapping ch ≡ true → index mapping replacement ch < length (list_of mapping)
   index_listed = by (place_from 0 ch (list_of mapping)) refl
     where
-      by : (f : Found) → place_from 0 ch (list_of mapping) ≡ f → is_found f ≡ true → place_or replacement f < length (list_of mapping)
-      by (At k) p e = omega (arith, place_below 0 ch (list_of mapping) p)
-      by Nothing p e = absurd (true≢false (sym e))
+      by : (f : Option ℕ) → place_from 0 ch (list_of mapping) ≡ f → is_some f ≡ true → unwrap_or f replacement < length (list_of mapping)
+      by (Some k) p e = omega (arith, place_below 0 ch (list_of mapping) p)
+      by None p e = absurd (true≢false (sym e))
 
 -- ---- a mapping whose refusal was found to be none
 

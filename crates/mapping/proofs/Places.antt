@@ -15,14 +15,13 @@ use Rattle.characters.specs.declared.Cursor.{Cursor}
 use Rattle.characters.specs.Utf8.{is_surrogate, chars_from, well_formed_from}
 use Rattle.mapping.specs.declared.Entry.{Entry}
 use Rattle.mapping.specs.declared.Entry.TheVariants as entry
-use Rattle.mapping.specs.declared.Found.{Found}
-use Rattle.mapping.specs.declared.Found.TheVariants.{At, Nothing}
+use Rattle.std.specs.Prelude.{Option, Some, None, is_some}
 use Rattle.mapping.specs.declared.Glyph.{Glyph}
 use Rattle.mapping.specs.declared.Start.{Start}
 use Rattle.mapping.specs.declared.search.Passed.{Passed}
 use Rattle.mapping.specs.Search.{SkipsBelow, StartOf}
 use Rattle.mapping.specs.Entries.{entry_at, after_entry, in_range, at_most, glyph_at, stop_refusal, ListFrom, WithinLimit}
-use Rattle.mapping.specs.Mapping.{from_to, spelled, list_of, place_from, is_found, refusal}
+use Rattle.mapping.specs.Mapping.{from_to, spelled, list_of, place_from, refusal}
 use Rattle.mapping.proofs.Ranges.{length_range_le, length_range_through, place_in, place_past}
 use Rattle.mapping.proofs.Entries.{StoppedEntry, entry_range, entry_stopped, entry_ill_formed, entry_end, stopped_entry}
 
@@ -35,17 +34,17 @@ place_capped most ch [] j k e = refl
 place_capped most ch (x ∷ l) j k e = by (eqb x ch) (place_capped most ch l (suc j) (suc k) (omega arith))
   where
     by : (t : Bool) → at_most most (place_from (suc j) ch l) ≡ at_most most (place_from (suc k) ch l)
-        → at_most most (cond t (At j) (place_from (suc j) ch l)) ≡ at_most most (cond t (At k) (place_from (suc k) ch l))
-    by true i = ap At e
+        → at_most most (cond t (Some j) (place_from (suc j) ch l)) ≡ at_most most (cond t (Some k) (place_from (suc k) ch l))
+    by true i = ap Some e
     by false i = i
 
 -- a position is within the list
-pub place_below : (k ch : ℕ) (l : List ℕ) {i : ℕ} → place_from k ch l ≡ At i → i < k + length l
+pub place_below : (k ch : ℕ) (l : List ℕ) {i : ℕ} → place_from k ch l ≡ Some i → i < k + length l
 unfolding place_from
 place_below k ch [] {i} e = absurd (let z : ◌≡◌ {A = ℕ} 0 1 = cc in omega arith)
 place_below k ch (x ∷ l) {i} e = by (eqb x ch) (λ q. omega (arith, place_below (suc k) ch l q)) e
   where
-    by : (t : Bool) → (place_from (suc k) ch l ≡ At i → i < k + suc (length l)) → cond t (At k) (place_from (suc k) ch l) ≡ At i → i < k + suc (length l)
+    by : (t : Bool) → (place_from (suc k) ch l ≡ Some i → i < k + suc (length l)) → cond t (Some k) (place_from (suc k) ch l) ≡ Some i → i < k + suc (length l)
     by true ih q = let j : k ≡ i = cc in omega arith
     by false ih q = ih q
 
@@ -77,7 +76,7 @@ module _ (s : List ℕ) (at : ℕ) {x : Entry} (e : x ≡ entry_at s at) {start 
       found_pos k p z = let r = in_range_lem in let l = length_range_through start ch r.2 r.0 in omega arith
 
       -- where it stands
-      found-place : (k p : ℕ) → p ≡ length (from_to start ch) → place_from k ch (spelled (chars_from s at)) ≡ At (k + p - 1)
+      found-place : (k p : ℕ) → p ≡ length (from_to start ch) → place_from k ch (spelled (chars_from s at)) ≡ Some (k + p - 1)
       found-place k p z =
           let r = in_range_lem in
           rw ((entry_range s at e q).spells, z) (place_in ch (spelled (chars_from s c.at)) k start end r.2 r.0 r.1)
@@ -89,15 +88,15 @@ module _ (s : List ℕ) (at : ℕ) {x : Entry} (e : x ≡ entry_at s at) {start 
       pub first_fits : (p : ℕ) → p ≡ length (from_to start ch) → ch < 2 ^ 32 → Fits w32 (p - 1)
       first_fits p z h = let l = length_range_le start ch in omega arith
 
-      pub glyph_first : (replacement p i : ℕ) → p ≡ length (from_to start ch) → i ≡ p - 1
-          → record { index = i; listed = true } ≡ glyph_at replacement (place_from 0 ch (spelled (chars_from s at)))
-      glyph_first replacement p i z j = let k : i ≡ 0 + p - 1 = omega arith in rw (found-place 0 p z, k)
+      pub glyph_first : (replacement p i : ℕ) (g : Glyph) → p ≡ length (from_to start ch) → i ≡ p - 1 → g ≡ glyph_at replacement (Some i)
+          → g ≡ glyph_at replacement (place_from 0 ch (spelled (chars_from s at)))
+      glyph_first replacement p i g z j h = let k : 0 + p - 1 ≡ i = omega arith in rw (found-place 0 p z, k) h
 
-      pub found_at : (most k p j : ℕ) (f : Found) → p ≡ length (from_to start ch) → j ≡ min (k + p - 1) most
-          → at_most most (place_from k ch (spelled (chars_from s at))) ≡ f → At j ≡ f
+      pub found_at : (most k p j : ℕ) (f : Option ℕ) → p ≡ length (from_to start ch) → j ≡ min (k + p - 1) most
+          → at_most most (place_from k ch (spelled (chars_from s at))) ≡ f → Some j ≡ f
       found_at most k p j f z m h = rw m (rw (found-place k p z) at h)
 
-    pub find_again : t ≡ false → (most k z j : ℕ) (f : Found) → z ≡ length (from_to start end) → j ≡ min (k + z) most
+    pub find_again : t ≡ false → (most k z j : ℕ) (f : Option ℕ) → z ≡ length (from_to start end) → j ≡ min (k + z) most
         → at_most most (place_from k ch (spelled (chars_from s at))) ≡ f → at_most most (place_from j ch (spelled (chars_from s c.at))) ≡ f
     unfolding in_range
     find_again n most k z j f l m h =
@@ -109,7 +108,7 @@ module _ (s : List ℕ) (at : ℕ) {x : Entry} (e : x ≡ entry_at s at) {start 
         place_capped most ch (spelled (chars_from s c.at)) j (k + z) (omega arith) ∙ (rw there at h)
 
     -- after the first entry, counted from as many as it has
-    pub after_first : t ≡ false → (z j : ℕ) (f : Found) → z ≡ length (from_to start end) → j ≡ min z 65_536
+    pub after_first : t ≡ false → (z j : ℕ) (f : Option ℕ) → z ≡ length (from_to start end) → j ≡ min z 65_536
         → f ≡ at_most 65_536 (place_from j ch (spelled (chars_from s c.at))) → f ≡ at_most 65_536 (place_from 0 ch (spelled (chars_from s at)))
     after_first n z j f l m h = h ∙ find_again n 65_536 0 z j _ l (omega arith) refl
 
@@ -134,13 +133,13 @@ limit_same j k e = elim (dec_lt 65_536 j) [
 ]
 
 module _ (s : List ℕ) (at : ℕ) {x : Entry} (e : x ≡ entry_at s at) (t : StoppedEntry x) where
-  pub find_stopped : (most k ch : ℕ) (f : Found) → at_most most (place_from k ch (spelled (chars_from s at))) ≡ f → Nothing ≡ f
+  pub find_stopped : (most k ch : ℕ) (f : Option ℕ) → at_most most (place_from k ch (spelled (chars_from s at))) ≡ f → None ≡ f
   unfolding place_from
   find_stopped most k ch f h = rw (entry_stopped s at e t) at h
 
-  pub glyph_stopped : (replacement ch : ℕ) → record { index = replacement; listed = false } ≡ glyph_at replacement (place_from 0 ch (spelled (chars_from s at)))
+  pub glyph_stopped : (replacement ch : ℕ) (g : Glyph) → g ≡ glyph_at replacement None → g ≡ glyph_at replacement (place_from 0 ch (spelled (chars_from s at)))
   unfolding place_from
-  glyph_stopped replacement ch = rw (entry_stopped s at e t)
+  glyph_stopped replacement ch g h = rw (entry_stopped s at e t) h
 
   pub check_stopped : (k r : ℕ) → k ≤ 65_537 → well_formed_from s at ≡ well_formed_from s 0
       → min (k + length (spelled (chars_from s at))) 65_537 ≡ min (length (list_of s)) 65_537 → r ≡ stop_refusal x k → r ≡ refusal s
@@ -182,22 +181,17 @@ start_below s x g q = rw (after_range q) g.passed
 
 -- ---- `glyph_with` and `glyph_of`
 
-pub glyph_listed : (m : List ℕ) (replacement ch i : ℕ) (f : Found) → WithinLimit m → f ≡ at_most 65_536 (place_from 0 ch (list_of m)) → f ≡ At i
-    → record { index = i; listed = true } ≡ glyph_at replacement (place_from 0 ch (list_of m))
-glyph_listed m replacement ch i f h e q = by (place_from 0 ch (list_of m)) refl e
+-- in a mapping within the limit no position is cut
+pub glyph_placed : (m : List ℕ) (replacement ch : ℕ) (f : Option ℕ) (g : Glyph) → WithinLimit m → f ≡ at_most 65_536 (place_from 0 ch (list_of m))
+    → g ≡ glyph_at replacement f → g ≡ glyph_at replacement (place_from 0 ch (list_of m))
+glyph_placed m replacement ch f g h e q = q ∙ ap (glyph_at replacement) (e ∙ by (place_from 0 ch (list_of m)) refl)
   where
-    by : (g : Found) → place_from 0 ch (list_of m) ≡ g → f ≡ at_most 65_536 g → record { index = i; listed = true } ≡ glyph_at replacement g
-    by (At k) p e =
-        let j : i ≡ min k 65_536 = cc in
+    by : (o : Option ℕ) → place_from 0 ch (list_of m) ≡ o → at_most 65_536 o ≡ o
+    by (Some k) p =
         let b = place_below 0 ch (list_of m) p in
         let l = h.spelled in
-        let z : i ≡ k = omega arith in
-        rw z
-    by Nothing p e = absurd (let z : ◌≡◌ {A = ℕ} 0 1 = cc in omega arith)
+        ap Some (omega arith)
+    by None p = refl
 
-pub glyph-unlisted : (replacement : ℕ) (f g : Found) → f ≡ at_most 65_536 g → f ≡ Nothing → record { index = replacement; listed = false } ≡ glyph_at replacement g
-glyph-unlisted replacement f (At k) e q = absurd (let z : ◌≡◌ {A = ℕ} 0 1 = cc in omega arith)
-glyph-unlisted replacement f Nothing e q = refl
-
-pub glyph_found : (replacement : ℕ) (f : Found) (g : Glyph) → g ≡ glyph_at replacement f → g.listed ≡ is_found f
+pub glyph_found : (replacement : ℕ) (f : Option ℕ) (g : Glyph) → g ≡ glyph_at replacement f → g.listed ≡ is_some f
 glyph_found replacement f g e = ap (λ (h : Glyph). h.listed) e

@@ -11,7 +11,7 @@ use native.Mathlib.Decide.{dec_lt}
 use borrow.Author.Tests.{lt-ltb, le-ltb, lt-leb, le-leb, eq-eqb, ne_eqb}
 use lib.ListN.{length}
 use Rattle.characters.specs.Utf8.{is_surrogate}
-use Rattle.mapping.specs.declared.Found.TheVariants.{At}
+use Rattle.std.specs.Prelude.{Some}
 use Rattle.mapping.specs.Entries.{scalars_below}
 use Rattle.mapping.specs.Mapping.{scalars_from, from_to, place_from}
 
@@ -74,8 +74,12 @@ length_scalars_between start end = elim (dec_lt end start) [
       )
 ]
 
-pub length_range : (start end r p q : ℕ) → r ≡ p - q → p ≡ scalars_below (end + 1) → q ≡ scalars_below start → r ≡ length (from_to start end)
-length_range start end r p q e f g = let l = length_scalars_between start (suc end) in let v = ap scalars_below (add-one end) in omega arith
+pub length_range : (start end r p q x y : ℕ) → r ≡ p - q → p ≡ scalars_below (x + 1) → x ≡ end → q ≡ scalars_below y → y ≡ start → r ≡ length (from_to start end)
+length_range start end r p q x y e f h g i =
+    let l = length_scalars_between start (suc end) in
+    let v : p ≡ scalars_below (suc end) = f ∙ ap (λ z. scalars_below (z + 1)) h ∙ ap scalars_below (add-one end) in
+    let w : q ≡ scalars_below start = g ∙ ap scalars_below i in
+    omega arith
 
 scalars_below_le : (v : ℕ) → scalars_below v ≤ v
 scalars_below_le v = by_region v (λ l t e. omega arith) (λ l h t e. omega arith) (λ l t e. omega arith)
@@ -121,17 +125,17 @@ module _ (ch : ℕ) (r : List ℕ) where
       (dichotomy (is_surrogate a))
 
   -- first of the numbers
-  place_here : (n k : ℕ) → is_surrogate ch ≡ false → place_from k ch (scalars_from (suc n) ch ++ r) ≡ At k
+  place_here : (n k : ℕ) → is_surrogate ch ≡ false → place_from k ch (scalars_from (suc n) ch ++ r) ≡ Some k
   unfolding scalars_from place_from
   place_here n k p = rw (p, eq-eqb ch ch refl)
 
 -- in a range: as far on as there are characters in it up to this one
 pub place_in : (ch : ℕ) (r : List ℕ) (k start end : ℕ) → is_surrogate ch ≡ false → start ≤ ch → ch ≤ end
-    → place_from k ch (from_to start end ++ r) ≡ At (k + length (from_to start ch) - 1)
+    → place_from k ch (from_to start end ++ r) ≡ Some (k + length (from_to start ch) - 1)
 place_in ch r k start end p l h =
     let rest = scalars_from (suc (end - ch)) ch ++ r in
     let parts : suc end - start ≡ (ch - start) + suc (end - ch) = omega arith in
     let i : start + (ch - start) ≡ ch = omega arith in
     let n = length_range_through start ch p l in
     rw (parts, scalars_append (ch - start) (suc (end - ch)) start, i, append_assoc (scalars_from (ch - start) start) (scalars_from (suc (end - ch)) ch) r)
-    (place_past ch rest (ch - start) k start (λ s a b. omega arith) ∙ place_here ch r (end - ch) _ p ∙ ap At (omega arith))
+    (place_past ch rest (ch - start) k start (λ s a b. omega arith) ∙ place_here ch r (end - ch) _ p ∙ ap Some (omega arith))

@@ -18,8 +18,7 @@ use Rattle.mapping.specs.declared.search.Needle.{Needle}
 use Rattle.mapping.specs.declared.search.Passed.{Passed}
 use Rattle.mapping.specs.declared.Entry.{Entry}
 use Rattle.mapping.specs.declared.Entry.TheVariants as entry
-use Rattle.mapping.specs.declared.Found.{Found}
-use Rattle.mapping.specs.declared.Found.TheVariants.{Nothing}
+use Rattle.std.specs.Prelude.{Option, None}
 use Rattle.mapping.specs.Entries.{entry_at, at_most, ListFrom}
 use Rattle.mapping.specs.Mapping.{spelled, place_from}
 use Rattle.mapping.specs.Search.{is_lead, leads, needle_of, may_begin, may_begin_at, Passes, Skips, Resumes}
@@ -135,14 +134,14 @@ module _ (s : List ℕ) (ch from : ℕ) (r : Passed) (g : Skips s (needle_of ch)
   pub skip_well : well_formed_from s r.at ≡ true
   skip_well = rest.well
 
-  pub skip_again : (most k m j : ℕ) (f : Found) → m ≡ min r.count most → j ≡ min (k + m) most
+  pub skip_again : (most k m j : ℕ) (f : Option ℕ) → m ≡ min r.count most → j ≡ min (k + m) most
       → at_most most (place_from k ch (spelled (chars_from s from))) ≡ f → at_most most (place_from j ch (spelled (chars_from s r.at))) ≡ f
   skip_again most k m j f a b h =
       let n = g.passes.counted in
       place_capped most ch (spelled (chars_from s r.at)) j (k + leads s from (r.at - from)) (omega arith) ∙ (rw (rest.placed k) at h)
 
   pub skip_stopped : {x : Entry} → x ≡ entry_at s r.at → StoppedEntry x
-      → (most k : ℕ) (f : Found) → at_most most (place_from k ch (spelled (chars_from s from))) ≡ f → Nothing ≡ f
+      → (most k : ℕ) (f : Option ℕ) → at_most most (place_from k ch (spelled (chars_from s from))) ≡ f → None ≡ f
   skip_stopped e t most k f h = find_stopped s r.at e t most _ ch f (rw (rest.placed k) at h)
 
 pub resumes_here : (s : List ℕ) (ch from k : ℕ) → ListFrom s from → k ≤ 65_536 → Resumes s ch from k (record { at = from; count = k })
@@ -157,7 +156,7 @@ resumes s ch from r g l k m j a b = record {
   placed = skip_again s ch from r g l.well 65_536 k m j _ a b refl;
 }
 
-pub resumed : (s : List ℕ) (ch from k : ℕ) (r : Passed) (f : Found) → Resumes s ch from k r
+pub resumed : (s : List ℕ) (ch from k : ℕ) (r : Passed) (f : Option ℕ) → Resumes s ch from k r
     → f ≡ at_most 65_536 (place_from r.count ch (spelled (chars_from s r.at))) → f ≡ at_most 65_536 (place_from k ch (spelled (chars_from s from)))
 resumed s ch from k r f g h = h ∙ g.placed
 

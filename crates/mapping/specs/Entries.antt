@@ -1,17 +1,15 @@
 -- What the functions on a mapping cite besides its definition: an entry at a position, characters counted without listing them, and
 -- positions up to the limit. Assumes nothing.
 -- Serves contracts: nothing here has to be believed.
-use Rattle.std.specs.Prelude.{ℕ, zero, suc, ◌-◌, ◌≤◌, min, ◌≡◌, List, Bool, true, not, cond, ◌&&◌, ltb, leb, length}
+use Rattle.std.specs.Prelude.{ℕ, zero, suc, ◌-◌, ◌≤◌, min, ◌≡◌, List, Bool, true, not, cond, ◌&&◌, ltb, leb, length, Option, Some, None, unwrap_or, is_some}
 use Rattle.characters.specs.declared.Step.{Step}
 use Rattle.characters.specs.declared.Step.TheVariants.{Character, IllFormed, End}
 use Rattle.characters.specs.Refusal.{need}
 use Rattle.characters.specs.Utf8.{is_surrogate, step_at, well_formed_from, well_formed}
 use Rattle.mapping.specs.declared.Entry.{Entry}
 use Rattle.mapping.specs.declared.Entry.TheVariants as entry
-use Rattle.mapping.specs.declared.Found.{Found}
-use Rattle.mapping.specs.declared.Found.TheVariants.{At, Nothing}
 use Rattle.mapping.specs.declared.Glyph.{Glyph}
-use Rattle.mapping.specs.Mapping.{list_of, place_or, is_found}
+use Rattle.mapping.specs.Mapping.{list_of}
 
 -- where no character stands, there is no entry
 unfoldable pub stop_of : Step → Entry
@@ -54,13 +52,13 @@ unfoldable pub scalars_below : ℕ → ℕ
 scalars_below v = cond (ltb v 0xD800) v (cond (ltb v 0xE000) 0xD800 (v - 0x800))
 
 -- a position, or `most` for every position from there on
-abbrev pub at_most : ℕ → Found → Found
-at_most most (At k) = At (min k most)
-at_most most Nothing = Nothing
+abbrev pub at_most : ℕ → Option ℕ → Option ℕ
+at_most most (Some k) = Some (min k most)
+at_most most None = None
 
 -- the glyph of a character that stands at a position, or nowhere
-abbrev pub glyph_at : ℕ → Found → Glyph
-glyph_at other place = record { index = place_or other place; listed = is_found place }
+abbrev pub glyph_at : ℕ → Option ℕ → Glyph
+glyph_at other place = record { index = unwrap_or place other; listed = is_some place }
 
 -- the refusal of a mapping whose entries stop after `count` characters
 unfoldable pub stop_refusal : Entry → ℕ → ℕ

@@ -1,10 +1,8 @@
 -- `StrGlyphMapping`: the characters that a mapping spells, and where one stands among them (docs/SHEET.md, Mapping). Assumes nothing.
 -- To be believed: it says what a sheet means.
-use Rattle.std.specs.Prelude.{ℕ, zero, suc, ◌-◌, List, [], ◌∷◌, ◌++◌, Bool, true, false, cond, leb, eqb, length}
+use Rattle.std.specs.Prelude.{ℕ, zero, suc, ◌-◌, List, [], ◌∷◌, ◌++◌, Bool, cond, leb, eqb, length, Option, Some, None, unwrap_or, is_some}
 use Rattle.characters.specs.Utf8.{is_surrogate, chars, well_formed}
 use Rattle.characters.specs.Refusal.{need}
-use Rattle.mapping.specs.declared.Found.{Found}
-use Rattle.mapping.specs.declared.Found.TheVariants.{At, Nothing}
 use Rattle.mapping.specs.declared.Glyph.{Glyph}
 
 -- the n numbers from a on, "surrogates skipped"
@@ -29,25 +27,17 @@ abbrev pub list_of : List ℕ → List ℕ
 list_of mapping = spelled (chars mapping)
 
 -- the first position of a character in a list, counted from k
-unfoldable pub place_from : ℕ → ℕ → List ℕ → Found
-place_from k ch [] = Nothing
-place_from k ch (x ∷ xs) = cond (eqb x ch) (At k) (place_from (suc k) ch xs)
-
-abbrev pub place_or : ℕ → Found → ℕ
-place_or other (At k) = k
-place_or other Nothing = other
-
-abbrev pub is_found : Found → Bool
-is_found (At k) = true
-is_found Nothing = false
+unfoldable pub place_from : ℕ → ℕ → List ℕ → Option ℕ
+place_from k ch [] = None
+place_from k ch (x ∷ xs) = cond (eqb x ch) (Some k) (place_from (suc k) ch xs)
 
 -- "`index` gives the first position of the character, else the replacement index"
 abbrev pub index : List ℕ → ℕ → ℕ → ℕ
-index mapping replacement ch = place_or replacement (place_from 0 ch (list_of mapping))
+index mapping replacement ch = unwrap_or (place_from 0 ch (list_of mapping)) replacement
 
 -- "`contains` says if it is listed"
 abbrev pub contains : List ℕ → ℕ → Bool
-contains mapping ch = is_found (place_from 0 ch (list_of mapping))
+contains mapping ch = is_some (place_from 0 ch (list_of mapping))
 
 -- what a lookup answers: "The glyph lookup .. must also say whether the character was listed"
 abbrev pub glyph : List ℕ → ℕ → ℕ → Glyph

@@ -1,9 +1,9 @@
 // A mapping: the entries that its bytes spell, the index of a character, whether it is listed, and the refusals 7 and 8.
 #![tactic(auto)]
 
-ghost use Rattle.std.specs.Prelude.{◌≡◌, ◌-◌, ◌≤◌, min, length};
+ghost use Rattle.std.specs.Prelude.{◌≡◌, ◌≤◌, length};
 ghost use Rattle.characters.specs.Utf8.{chars_from};
-ghost use Rattle.mapping.specs.Entries.{entry_at, after_entry, stop_of, in_range, scalars_below, at_most, stop_refusal, ListFrom, WithinLimit};
+ghost use Rattle.mapping.specs.Entries.{entry_at, after_entry, stop_of, in_range, scalars_below, at_most, glyph_at, stop_refusal, ListFrom, WithinLimit};
 ghost use Rattle.mapping.specs.Mapping.{from_to, spelled, place_from, glyph, contains, refusal};
 ghost use Rattle.mapping.specs.Search.{SkipsBelow, StartOf, Resumes};
 
@@ -21,14 +21,8 @@ pub enum Entry {
     End,
 }
 
-// Where a character stands in a mapping.
-#[derive(Clone, Copy)]
-pub enum Found {
-    At(u32),
-    Nothing,
-}
-
-// The glyph of a character: its index, and whether the mapping lists the character.
+// The glyph of a character: its index, and whether the mapping lists the character. No Option: a character that is not listed has an
+// index too, the replacement's.
 #[derive(Clone, Copy)]
 pub struct Glyph {
     pub index: u32,
@@ -42,26 +36,6 @@ pub struct Start {
     pub first: Entry,
     pub lead: u8,
     pub passed: Passed,
-}
-
-// The lesser of two numbers.
-fn at_most(v: u64, most: u64) -> u64
-    ensures { result ≡ min v most }
-{
-    if v < most {
-        return v;
-    }
-    most
-}
-
-// v less `by`, at least 0.
-fn minus(v: u64, by: u64) -> u64
-    ensures { result ≡ v - by }
-{
-    if v < by {
-        return 0;
-    }
-    v - by
 }
 
 // How many characters stand below a number.
@@ -81,8 +55,8 @@ fn scalars_below(v: u64) -> u64
 fn range_len(start: u32, end: u32) -> u64
     ensures { result ≡ length (from_to start end) }
 {
-    let below = scalars_below(start as u64);
-    minus(scalars_below(end as u64 + 1), below)
+    let below = scalars_below(u64::from(start));
+    scalars_below(u64::from(end) + 1).saturating_sub(below)
 }
 
 // Whether ch is a character from `start` to `end`.
@@ -96,10 +70,10 @@ fn in_range(start: u32, end: u32, ch: u32) -> bool
 fn stop(step: Step) -> Entry
     ensures { result ≡ stop_of step }
 {
-    let Step::IllFormed = step else {
-        return Entry::End;
-    };
-    Entry::IllFormed
+    match step {
+        Step::IllFormed => Entry::IllFormed,
+        _ => Entry::End,
+    }
 }
 
 // The entry at the cursor.
@@ -128,14 +102,15 @@ fn entry_at(mapping: &[u8], c: Cursor) -> Entry
 fn after_entry(entry: Entry) -> usize
     ensures { result ≡ after_entry entry }
 {
-    let Entry::Range(_, _, after) = entry else {
-        return 0;
-    };
-    after.at
+    match entry {
+        Entry::Range(_, _, after) => after.at,
+        _ => 0,
+    }
 }
 
 // The first position of a character in the list from a cursor on, counted from `count`, or 65,536 for every position from there on.
-fn find(mapping: &[u8], from: Cursor, count: u64, ch: u32) -> Found
+// The loop has a cursor and no iterator, since each entry says where the next begins.
+fn find(mapping: &[u8], from: Cursor, count: u64, ch: u32) -> Option<u32>
     requires list_from { ListFrom mapping.now from.at }
     requires count_bound { count ≤ 65_536 }
     ensures { result ≡ at_most 65_536 (place_from count ch (spelled (chars_from mapping.now from.at))) }
@@ -144,18 +119,18 @@ fn find(mapping: &[u8], from: Cursor, count: u64, ch: u32) -> Found
     let mut k = count;
     loop {
         let passed = search::skip(mapping, c.at, ch);
-        let more = at_most(passed.count, 65536);
-        k = at_most(k + more, 65536);
+        let more = passed.count.min(65536);
+        k = (k + more).min(65536);
         let Entry::Range(start, end, after) = entry_at(mapping, Cursor { at: passed.at }) else {
-            return Found::Nothing;
+            return None;
         };
         if in_range(start, end, ch) {
             let through = range_len(start, ch);
-            let place = at_most(k + through - 1, 65536);
-            return Found::At(place as u32);
+            let place = (k + through - 1).min(65536);
+            return Some(place as u32);
         }
         let len = range_len(start, end);
-        k = at_most(k + len, 65536);
+        k = (k + len).min(65536);
         c = after;
     }
 }
@@ -172,8 +147,8 @@ fn resume(mapping: &[u8], from: usize, lead: u8, below: Passed, count: u64, ch: 
         return Passed { at: from, count };
     }
     let passed = search::passed_for(mapping, from, lead, below, ch);
-    let more = at_most(passed.count, 65536);
-    let counted = at_most(count + more, 65536);
+    let more = passed.count.min(65536);
+    let counted = (count + more).min(65536);
     Passed {
         at: passed.at,
         count: counted,
@@ -195,19 +170,28 @@ pub fn start_of(mapping: &[u8], text: &[u8]) -> Start
             passed: nothing,
         };
     }
-    let lead = search::least_lead(text);
-    if lead < 0xC0 {
+    let Some(lead) = search::least_lead(text) else {
         return Start {
             first,
-            lead,
+            lead: 0,
             passed: nothing,
         };
-    }
+    };
     let passed = search::pass_below(mapping, at, lead);
     Start {
         first,
         lead,
         passed,
+    }
+}
+
+// The glyph of a character that stands at a position, or nowhere.
+fn glyph_at(place: Option<u32>, replacement: u32) -> Glyph
+    ensures { result ≡ glyph_at replacement place }
+{
+    Glyph {
+        index: place.unwrap_or(replacement),
+        listed: place.is_some(),
     }
 }
 
@@ -218,34 +202,18 @@ pub fn glyph_with(mapping: &[u8], start: Start, replacement: u32, ch: u32) -> Gl
     requires start_of { StartOf mapping.now start }
     ensures { result ≡ glyph mapping.now replacement ch }
 {
-    let first = start.first;
-    let Entry::Range(low, high, after) = first else {
-        return Glyph {
-            index: replacement,
-            listed: false,
-        };
+    let Entry::Range(low, high, after) = start.first else {
+        return glyph_at(None, replacement);
     };
     if in_range(low, high, ch) {
         let through = range_len(low, ch);
         let index = (through - 1) as u32;
-        return Glyph {
-            index,
-            listed: true,
-        };
+        return glyph_at(Some(index), replacement);
     }
-    let len = at_most(range_len(low, high), 65536);
-    let passed = start.passed;
-    let from = resume(mapping, after.at, start.lead, passed, len, ch);
-    let Found::At(place) = find(mapping, Cursor { at: from.at }, from.count, ch) else {
-        return Glyph {
-            index: replacement,
-            listed: false,
-        };
-    };
-    Glyph {
-        index: place,
-        listed: true,
-    }
+    let len = range_len(low, high).min(65536);
+    let from = resume(mapping, after.at, start.lead, start.passed, len, ch);
+    let place = find(mapping, Cursor { at: from.at }, from.count, ch);
+    glyph_at(place, replacement)
 }
 
 // The same, for a single character.
@@ -253,16 +221,8 @@ pub fn glyph_of(mapping: &[u8], replacement: u32, ch: u32) -> Glyph
     requires { WithinLimit mapping.now }
     ensures { result ≡ glyph mapping.now replacement ch }
 {
-    let Found::At(place) = find(mapping, Cursor { at: 0 }, 0, ch) else {
-        return Glyph {
-            index: replacement,
-            listed: false,
-        };
-    };
-    Glyph {
-        index: place,
-        listed: true,
-    }
+    let place = find(mapping, Cursor { at: 0 }, 0, ch);
+    glyph_at(place, replacement)
 }
 
 // Whether a mapping that the check accepts lists a character.
@@ -270,8 +230,7 @@ pub fn contains(mapping: &[u8], ch: u32) -> bool
     requires { WithinLimit mapping.now }
     ensures { result ≡ contains mapping.now ch }
 {
-    let found = glyph_of(mapping, 0, ch);
-    found.listed
+    glyph_of(mapping, 0, ch).listed
 }
 
 // The refusal where a mapping's entries stop, after so many characters.
@@ -287,7 +246,8 @@ fn stop_refusal(stop: Entry, count: u64) -> u32
     8
 }
 
-// 7 for an ill-formed mapping, 8 for one that spells more than 65,536 characters, else 0.
+// 7 for an ill-formed mapping, 8 for one that spells more than 65,536 characters, else 0. The loop has a cursor and no iterator, since
+// each entry says where the next begins.
 pub fn check_mapping(mapping: &[u8]) -> u32
     ensures { result ≡ refusal mapping.now }
 {
@@ -299,7 +259,7 @@ pub fn check_mapping(mapping: &[u8]) -> u32
             return stop_refusal(entry, count);
         };
         let len = range_len(start, end);
-        count = at_most(count + len, 65537);
+        count = (count + len).min(65537);
         c = after;
     }
 }

@@ -1,10 +1,9 @@
 // The search over characters that a mapping lists singly: bytes with which neither a range nor the character looked for begins are
 // passed over in blocks, and a character is counted for each lead byte among them.
-ghost use Rattle.std.specs.Prelude.{◌≡◌, cond, ◌+◌, ◌-◌, ◌<◌, ◌≤◌, min, max, length, get_or};
+ghost use Rattle.std.specs.Prelude.{◌≡◌, ◌+◌, ◌<◌, ◌≤◌, length, get_or, IfSome};
+ghost use Rattle.std.specs.List.{position_or_len};
 ghost use Rattle.mapping.specs.Entries.{ListFrom};
-ghost use Rattle.mapping.specs.Search.{is_lead, leads, needle_of, may_begin, may_begin_at, before, OfBlock, OfHit, Below, SkipsBelow, Passes, Skips, IsNeedle};
-
-use numbers::wide64;
+ghost use Rattle.mapping.specs.Search.{is_lead, leads, needle_of, may_begin, may_begin_at, OfBlock, OfHit, Below, SkipsBelow, Passes, Skips, IsNeedle};
 
 // The bytes by which a character is looked for: the first of its UTF-8 sequence, the second of four, the last but one and the last,
 // with how far on from the first they stand. One that a sequence is too short for is the first again.
@@ -33,61 +32,11 @@ pub struct Passed {
     pub count: u64,
 }
 
-// The greater of two bytes.
-fn greater(v: u8, w: u8) -> u8
-    ensures { result ≡ max v w }
-{
-    if v < w {
-        return w;
-    }
-    v
-}
-
-// The lesser of two bytes.
-fn lesser(v: u8, w: u8) -> u8
-    ensures { result ≡ min v w }
-{
-    if v < w {
-        return v;
-    }
-    w
-}
-
-// v less `by`, at least 0.
-fn less(v: u8, by: u8) -> u8
-    ensures { result ≡ v - by }
-{
-    if v < by {
-        return 0;
-    }
-    v - by
-}
-
-// v if the test holds, else 0.
-fn only_if(test: bool, v: u8) -> u8
-    ensures { result ≡ cond test v 0 }
-{
-    if test {
-        return v;
-    }
-    0
-}
-
 // Whether a byte begins a sequence.
 fn is_lead(b: u8) -> bool
     ensures { result ≡ is_lead b }
 {
     !((0x80 <= b) & (b < 0xC0))
-}
-
-// The byte before b, of 256 in a circle.
-fn before(b: u8) -> u8
-    ensures { result ≡ before b }
-{
-    if b == 0 {
-        return 255;
-    }
-    b - 1
 }
 
 // The bytes by which a character is looked for.
@@ -153,19 +102,20 @@ fn lead_of(ch: u32) -> u8
     needle.lead
 }
 
-// The least byte of a text with which a sequence of several bytes begins, or 0 if there is none.
-pub fn least_lead(text: &[u8]) -> u8 {
+// The least byte of a text with which a sequence of several bytes begins.
+pub fn least_lead(text: &[u8]) -> Option<u8>
+    ensures { IfSome result (λ lead. 0xC0 ≤ lead) }
+{
     let mut least: u8 = 255;
-    let mut i: usize = 0;
-    while i < text.len() {
-        let b = text[i];
-        least = lesser(least, greater(b, only_if(b < 0xC0, 255)));
-        i += 1;
+    for b in text {
+        if 0xC0 <= *b {
+            least = least.min(*b);
+        }
     }
     if least == 255 {
-        return 0;
+        return None;
     }
-    least
+    Some(least)
 }
 
 // Whether a range or the character may begin with the byte a.
@@ -183,12 +133,10 @@ fn read_block(mapping: &[u8], at: usize) -> Block
 {
     let mut most: u8 = 0;
     let mut leads: u8 = 0;
-    let mut i: usize = 0;
-    while i < 128 {
+    for i in 0..128 {
         let b = mapping[at + i];
-        most = greater(most, before(b));
-        leads += only_if(is_lead(b), 1);
-        i += 1;
+        most = most.max(b.wrapping_sub(1));
+        leads += u8::from(is_lead(b));
     }
     Block { most, leads }
 }
@@ -203,17 +151,15 @@ fn hit(mapping: &[u8], at: usize, needle: Needle) -> u8
     let mid = needle.mid;
     let end = needle.end;
     let mut found: u8 = 0;
-    let mut left: u8 = 64;
-    let mut i: usize = 0;
-    while i < 64 {
+    for i in 0..64 {
         let from = at + i;
         let a = mapping[from];
         let b = mapping[from + near];
         let c = mapping[from + mid];
         let d = mapping[from + end];
-        found = greater(found, only_if(may_begin(needle, a, b, c, d), left));
-        left -= 1;
-        i += 1;
+        if may_begin(needle, a, b, c, d) {
+            found = found.max(64 - i as u8);
+        }
     }
     found
 }
@@ -225,13 +171,9 @@ fn leads_of(mapping: &[u8], at: usize, n: u8) -> u8
     ensures { result ≡ leads mapping.now at n }
 {
     let mut count: u8 = 0;
-    let mut passed: u8 = 0;
-    let mut i: usize = 0;
-    while i < 64 {
-        let lead = only_if(is_lead(mapping[at + i]), 1);
-        count += lesser(lead, less(n, passed));
-        passed += 1;
-        i += 1;
+    for i in 0..64 {
+        let lead = u8::from(is_lead(mapping[at + i]));
+        count += lead.min(n.saturating_sub(i as u8));
     }
     count
 }
@@ -241,18 +183,30 @@ fn pass_blocks(mapping: &[u8], from: usize, lead: u8) -> Passed
     requires { from ≤ length mapping.now }
     ensures { Below mapping.now lead from result }
 {
-    let size = mapping.len();
-    let mut at = from;
+    let blocks = (mapping.len() - from) / 128;
     let mut count: u64 = 0;
-    while 128 <= size - at {
-        let bytes = read_block(mapping, at);
-        if before(lead) <= bytes.most {
+    for k in 0..blocks {
+        let at = from + 128 * k;
+        let block = read_block(mapping, at);
+        if lead.wrapping_sub(1) <= block.most {
             return Passed { at, count };
         }
-        count += wide64(bytes.leads);
-        at += 128;
+        count += u64::from(block.leads);
     }
-    Passed { at, count }
+    Passed {
+        at: from + 128 * blocks,
+        count,
+    }
+}
+
+// How many bytes stand before the first lead byte.
+fn before_lead(bytes: &[u8]) -> usize
+    ensures { result ≡ position_or_len is_lead bytes.now }
+{
+    bytes
+        .iter()
+        .position(|b| is_lead(*b))
+        .unwrap_or(bytes.len())
 }
 
 // The same, and on to the next lead byte.
@@ -262,15 +216,10 @@ pub fn pass_below(mapping: &[u8], from: usize, lead: u8) -> Passed
     ensures { SkipsBelow mapping.now lead from result }
 {
     let blocks = pass_blocks(mapping, from, lead);
-    let count = blocks.count;
-    let mut at = blocks.at;
-    while at < mapping.len() {
-        if is_lead(mapping[at]) {
-            return Passed { at, count };
-        }
-        at += 1;
+    Passed {
+        at: blocks.at + before_lead(&mapping[blocks.at..]),
+        count: blocks.count,
     }
-    Passed { at, count }
 }
 
 // What is passed over for ch: `passed`, if the sequence of ch begins with `lead` or a higher byte, else nothing.
@@ -280,7 +229,7 @@ pub fn passed_for(mapping: &[u8], from: usize, lead: u8, passed: Passed, ch: u32
     requires from_lt_at { from < passed.at }
     ensures { Skips mapping.now (needle_of ch) from result }
 {
-    if before(lead) <= before(lead_of(ch)) {
+    if lead.wrapping_sub(1) <= lead_of(ch).wrapping_sub(1) {
         return passed;
     }
     Passed { at: from, count: 0 }
@@ -292,33 +241,34 @@ fn pass(mapping: &[u8], from: usize, needle: Needle) -> Passed
     requires needle { IsNeedle needle }
     ensures { Passes mapping.now needle from result }
 {
-    let size = mapping.len();
     let blocks = pass_blocks(mapping, from, needle.lead);
-    let mut at = blocks.at;
+    // A sequence that begins in the 64 bytes reaches up to 3 bytes on.
+    let hits = (mapping.len() - blocks.at).saturating_sub(3) / 64;
     let mut count = blocks.count;
-    while 67 <= size - at {
+    for k in 0..hits {
+        let at = blocks.at + 64 * k;
         let left = hit(mapping, at, needle);
         if 0 < left {
             let n = 64 - left;
-            count += wide64(leads_of(mapping, at, n));
-            at += n as usize;
-            return Passed { at, count };
+            count += u64::from(leads_of(mapping, at, n));
+            return Passed {
+                at: at + usize::from(n),
+                count,
+            };
         }
-        count += wide64(leads_of(mapping, at, 64));
-        at += 64;
+        count += u64::from(leads_of(mapping, at, 64));
     }
-    Passed { at, count }
+    Passed {
+        at: blocks.at + 64 * hits,
+        count,
+    }
 }
 
 // The byte that stands `by` bytes on, or 0 past the end.
-fn byte_on(mapping: &[u8], at: usize, by: usize) -> u8
-    requires { at ≤ length mapping.now }
-    ensures { result ≡ get_or mapping.now (at + by) 0 }
+fn byte_on(rest: &[u8], by: usize) -> u8
+    ensures { result ≡ get_or rest.now by 0 }
 {
-    if by < mapping.len() - at {
-        return mapping[at + by];
-    }
-    0
+    rest.get(by).copied().unwrap_or(0)
 }
 
 // Whether a range or the character may begin at a position.
@@ -326,10 +276,11 @@ fn begins_at(mapping: &[u8], at: usize, needle: Needle) -> bool
     requires { at < length mapping.now }
     ensures { result ≡ may_begin_at mapping.now needle at }
 {
-    let a = mapping[at];
-    let b = byte_on(mapping, at, needle.near);
-    let c = byte_on(mapping, at, needle.mid);
-    let d = byte_on(mapping, at, needle.end);
+    let rest = &mapping[at..];
+    let a = rest[0];
+    let b = byte_on(rest, needle.near);
+    let c = byte_on(rest, needle.mid);
+    let d = byte_on(rest, needle.end);
     may_begin(needle, a, b, c, d)
 }
 
@@ -339,24 +290,25 @@ fn pass_bytes(mapping: &[u8], from: usize, needle: Needle) -> Passed
     requires needle { IsNeedle needle }
     ensures { Skips mapping.now needle from result }
 {
-    let mut at = from;
     let mut count: u64 = 0;
-    while at < mapping.len() {
+    for at in from..mapping.len() {
         if begins_at(mapping, at, needle) {
             return Passed { at, count };
         }
-        count += wide64(only_if(is_lead(mapping[at]), 1));
-        at += 1;
+        count += u64::from(is_lead(mapping[at]));
     }
-    Passed { at, count }
+    Passed {
+        at: mapping.len(),
+        count,
+    }
 }
 
-// Whether a range begins, or the mapping ends, within the next bytes: then a block is not worth its while.
-fn is_near(mapping: &[u8], at: usize) -> bool
-    requires { at ≤ length mapping.now }
-{
-    (byte_on(mapping, at, 1) == 0)
-        | ((byte_on(mapping, at, 2) == 0) | (byte_on(mapping, at, 3) == 0))
+// Whether a range begins, or the mapping ends, within the bytes after the first: then a block is not worth its while.
+fn is_near(rest: &[u8]) -> bool {
+    let [_, b, c, d, ..] = rest else {
+        return true;
+    };
+    (*b == 0) | ((*c == 0) | (*d == 0))
 }
 
 // Passes over singly listed characters other than ch.
@@ -370,7 +322,7 @@ pub fn skip(mapping: &[u8], from: usize, ch: u32) -> Passed
     if mapping[from] == 0 {
         return Passed { at: from, count: 0 };
     }
-    if is_near(mapping, from) {
+    if is_near(&mapping[from..]) {
         return Passed { at: from, count: 0 };
     }
     let needle = needle_of(ch);

@@ -1,6 +1,6 @@
 -- A character of the first range stands as far on as the range has characters up to it, any other as far on as after the range; in a
 -- mapping within the limit no position is cut. Assumes nothing.
-use Rattle.mapping.proofs.Places.{start_below, glyph_stopped, first_pos, first_fits, glyph_first, list_after, after_first, glyph-unlisted, glyph_listed}
+use Rattle.mapping.proofs.Places.{start_below, glyph_stopped, first_pos, first_fits, glyph_first, list_after, after_first, glyph_placed}
 use Rattle.mapping.proofs.Skipped.{resumed}
 use Rattle.mapping.proofs.glyph_with.Goals as goal
 
@@ -22,8 +22,5 @@ resume-from-requires-clause-list_from c = search list_after
 pub resume-from-requires-clause-skips_below : goal.resume-from-requires-clause-skips_below
 resume-from-requires-clause-skips_below c = search start_below
 
-pub returns-in_default-find : goal.returns-in_default-find
-returns-in_default-find c = search (glyph-unlisted, after_first, resumed)
-
 pub returns : goal.returns
-returns c = search (glyph_listed, after_first, resumed)
+returns c = search (glyph_placed, after_first, resumed)

@@ -9,8 +9,8 @@ overflow_sub-mapping c = search after-within
 pub returns-then-mapping-at-lt128 : goal.returns-then-mapping-at-lt128
 returns-then-mapping-at-lt128 c = search (start_made, skips_below_none, after-within)
 
-pub returns-then-lead-lt192 : goal.returns-then-lead-lt192
-returns-then-lead-lt192 c = search (start_made, skips_below_none, after-within)
+pub returns-in_default : goal.returns-in_default
+returns-in_default c = search (start_made, skips_below_none, after-within)
 
 pub pass_below-passed-requires-clause-from_in_bounds : goal.pass_below-passed-requires-clause-from_in_bounds
 pass_below-passed-requires-clause-from_in_bounds c = search after-within

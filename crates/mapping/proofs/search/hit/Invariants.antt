@@ -1,15 +1,10 @@
 -- The invariant: nothing begins at a byte passed that counts for more than was found. Assumes nothing.
 use mathlib.Core.Path.{◌≡◌}
 use mathlib.Core.Bool.{false}
-use Prim.Native.Nat.{ℕ, ◌+◌, ◌-◌, ◌<◌, ◌≤◌}
+use Prim.Native.Nat.{ℕ, ◌+◌, ◌<◌, ◌≤◌}
 use Rattle.mapping.specs.Search.{may_begin_at}
 use Rattle.mapping.proofs.search.hit.Given as goal
 
 abbrev pub invariant-loop-i : goal.invariant-loop-i
-invariant-loop-i l = (l.i ≤ 64)
-    × (l.left + l.i ≡ 64)
-    × (l.found ≤ 64)
+invariant-loop-i l = (l.found ≤ 64)
     × ((j : ℕ) → j < l.i → j + l.found < 64 → may_begin_at l.mapping l.needle (l.at + j) ≡ false)
-
-abbrev pub decreases-loop-i : goal.decreases-loop-i
-decreases-loop-i l = 64 - l.i

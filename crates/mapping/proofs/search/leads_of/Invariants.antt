@@ -1,11 +1,8 @@
 -- The invariant: the lead bytes among those passed that stand before n are counted. Assumes nothing.
 use mathlib.Core.Path.{◌≡◌}
-use Prim.Native.Nat.{◌-◌, ◌≤◌, min}
+use Prim.Native.Nat.{min}
 use Rattle.mapping.specs.Search.{leads}
 use Rattle.mapping.proofs.search.leads_of.Given as goal
 
 abbrev pub invariant-loop-i : goal.invariant-loop-i
-invariant-loop-i l = (l.i ≤ 64) × (l.passed ≡ l.i) × (l.count ≡ leads l.mapping l.at (min l.i l.n))
-
-abbrev pub decreases-loop-i : goal.decreases-loop-i
-decreases-loop-i l = 64 - l.i
+invariant-loop-i l = l.count ≡ leads l.mapping l.at (min l.i l.n)

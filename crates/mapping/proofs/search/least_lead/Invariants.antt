@@ -1,10 +1,6 @@
--- The invariant: the position is within the text. Assumes nothing.
-use Prim.Native.Nat.{◌-◌, ◌≤◌}
-use lib.ListN.{length}
+-- The invariant: the least is a lead byte of several bytes. Assumes nothing.
+use Prim.Native.Nat.{◌≤◌}
 use Rattle.mapping.proofs.search.least_lead.Given as goal
 
-abbrev pub invariant-loop-i : goal.invariant-loop-i
-invariant-loop-i l = l.i ≤ length l.text
-
-abbrev pub decreases-loop-i : goal.decreases-loop-i
-decreases-loop-i l = length l.text - l.i
+abbrev pub invariant-loop-b : goal.invariant-loop-b
+invariant-loop-b l = 0xC0 ≤ l.least

@@ -1,11 +1,7 @@
 -- The invariant: what was passed over. Assumes nothing.
-use Prim.Native.Nat.{◌-◌}
-use lib.ListN.{length}
+use Prim.Native.Nat.{◌+◌, ◌*◌}
 use Rattle.mapping.specs.Search.{Passes}
 use Rattle.mapping.proofs.search.pass.Given as goal
 
-abbrev pub invariant-loop-at : goal.invariant-loop-at
-invariant-loop-at l = Passes l.mapping l.needle l.from (record { at = l.at; count = l.count })
-
-abbrev pub decreases-loop-at : goal.decreases-loop-at
-decreases-loop-at l = length l.mapping - l.at
+abbrev pub invariant-loop-k : goal.invariant-loop-k
+invariant-loop-k l = Passes l.mapping l.needle l.from (record { at = l.blocks.at + 64 * l.k; count = l.count })

@@ -1,12 +1,9 @@
--- The invariant: what was passed over, all below `lead`. Assumes nothing.
-use Rattle.mapping.proofs.Blocks.{below_more, below_lead, below_past}
+-- The blocks are below `lead`, and what continues a sequence is too. Assumes nothing.
+use Rattle.mapping.proofs.Blocks.{lead_fits, skips_on}
 use Rattle.mapping.proofs.search.pass_below.Goals as goal
 
-pub returns-then-is_lead : goal.returns-then-is_lead
-returns-then-is_lead c = search below_lead
-
-pub loop-at-preserved : goal.loop-at-preserved
-loop-at-preserved c = search below_more
+pub overflow_add-result : goal.overflow_add-result
+overflow_add-result c = search lead_fits
 
 pub returns : goal.returns
-returns c = search below_past
+returns c = search skips_on

@@ -1,12 +1,15 @@
 -- The invariant: what was passed over. Assumes nothing.
-use Rattle.mapping.proofs.Blocks.{below_none, block_fits, below_block}
+use Rattle.mapping.proofs.Blocks.{below_start, block_fits, below_block, below_blocks}
 use Rattle.mapping.proofs.search.pass_blocks.Goals as goal
 
-pub loop-at-init : goal.loop-at-init
-loop-at-init c = search below_none
+pub loop-k-init : goal.loop-k-init
+loop-k-init c = search below_start
 
 pub overflow_add-count : goal.overflow_add-count
 overflow_add-count c = search block_fits
 
-pub loop-at-preserved : goal.loop-at-preserved
-loop-at-preserved c = search below_block
+pub loop-k-preserved : goal.loop-k-preserved
+loop-k-preserved c = search below_block
+
+pub returns : goal.returns
+returns c = search below_blocks

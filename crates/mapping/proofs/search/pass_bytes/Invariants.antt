@@ -1,11 +1,6 @@
 -- The invariant: what was passed over. Assumes nothing.
-use Prim.Native.Nat.{◌-◌}
-use lib.ListN.{length}
 use Rattle.mapping.specs.Search.{Passes}
 use Rattle.mapping.proofs.search.pass_bytes.Given as goal
 
 abbrev pub invariant-loop-at : goal.invariant-loop-at
 invariant-loop-at l = Passes l.mapping l.needle l.from (record { at = l.at; count = l.count })
-
-abbrev pub decreases-loop-at : goal.decreases-loop-at
-decreases-loop-at l = length l.mapping - l.at

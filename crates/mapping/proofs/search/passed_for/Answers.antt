@@ -3,8 +3,8 @@ use Rattle.mapping.proofs.Blocks.{skips_from}
 use Rattle.mapping.proofs.Skipped.{skips_none}
 use Rattle.mapping.proofs.search.passed_for.Goals as goal
 
-pub returns-then-before : goal.returns-then-before
-returns-then-before c = search skips_from
+pub returns-then-lead-lead_of : goal.returns-then-lead-lead_of
+returns-then-lead-lead_of c = search skips_from
 
 pub returns : goal.returns
 returns c = search skips_none

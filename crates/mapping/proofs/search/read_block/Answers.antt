@@ -1,17 +1,16 @@
 -- The invariant: the bytes passed are bounded, and their lead bytes are counted. Assumes nothing.
 use native.Mathlib.Omega.{arith}
 use Rattle.mapping.proofs.Blocks.{leads-start, leads_more, leads-fits, bounded_more, block_whole}
-use borrow.Author.Rules.{rules}
 use Rattle.mapping.proofs.search.read_block.Goals as goal
 
 pub loop-i-init : goal.loop-i-init
-loop-i-init c = (search rules, search leads-start, λ j a. absurd (omega arith))
+loop-i-init c = (search leads-start, λ j a. absurd (omega arith))
 
 pub overflow_add-leads : goal.overflow_add-leads
 overflow_add-leads c = search leads-fits
 
 pub loop-i-preserved : goal.loop-i-preserved
-loop-i-preserved c = (search rules, search leads_more, search bounded_more)
+loop-i-preserved c = (search leads_more, search bounded_more)
 
 pub returns : goal.returns
 returns c = search block_whole

