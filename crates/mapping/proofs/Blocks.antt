@@ -31,24 +31,24 @@ begins_read s p at a b c d t e x y z w = e ∙ rw (x, y, z, w)
 
 -- ---- the bytes from a position on
 
-abbrev pub rest : List ℕ → ℕ → List ℕ
-rest s at = take (length s - at) (drop at s)
+abbrev pub bytes_from : List ℕ → ℕ → List ℕ
+bytes_from s at = take (length s - at) (drop at s)
 
 module _ (s : List ℕ) (at : ℕ) where
-  rest_is : rest s at ≡ drop at s
+  rest_is : bytes_from s at ≡ drop at s
   rest_is = rw (← length-drop at s) (take-length (drop at s))
 
-  rest_byte : (i : ℕ) → get_or (rest s at) i 0 ≡ get_or s (at + i) 0
+  rest_byte : (i : ℕ) → get_or (bytes_from s at) i 0 ≡ get_or s (at + i) 0
   rest_byte i = ap (λ l. get_or l i 0) rest_is ∙ get_or-drop at s i 0
 
-  rest_length : length (rest s at) ≡ length s - at
+  rest_length : length (bytes_from s at) ≡ length s - at
   rest_length = ap length rest_is ∙ length-drop at s
 
-  pub begins_rest : (p : Needle) (b c d : ℕ) (t : Bool) → t ≡ may_begin p (get_or (rest s at) 0 0) b c d → b ≡ get_or (rest s at) p.near 0
-      → c ≡ get_or (rest s at) p.mid 0 → d ≡ get_or (rest s at) p.end 0 → t ≡ may_begin_at s p at
+  pub begins_rest : (p : Needle) (b c d : ℕ) (t : Bool) → t ≡ may_begin p (get_or (bytes_from s at) 0 0) b c d → b ≡ get_or (bytes_from s at) p.near 0
+      → c ≡ get_or (bytes_from s at) p.mid 0 → d ≡ get_or (bytes_from s at) p.end 0 → t ≡ may_begin_at s p at
   begins_rest p b c d t e y z w =
       let o : at + 0 ≡ at = omega arith in
-      begins_read s p at (get_or (rest s at) 0 0) b c d t e (rest_byte 0 ∙ rw o) (y ∙ rest_byte p.near) (z ∙ rest_byte p.mid) (w ∙ rest_byte p.end)
+      begins_read s p at (get_or (bytes_from s at) 0 0) b c d t e (rest_byte 0 ∙ rw o) (y ∙ rest_byte p.near) (z ∙ rest_byte p.mid) (w ∙ rest_byte p.end)
 
 -- ---- lead bytes
 
@@ -206,39 +206,6 @@ module _ (s : List ℕ) (limit from : ℕ) where
   pub below_none : from ≤ length s → Below s limit from (record { at = from; count = 0 })
   below_none h = record { forward = omega arith; within = h; counted = leads-none-yet s from; low = λ q a b. absurd (omega arith) }
 
-  -- no block yet
-  pub below_start : from ≤ length s → Below s limit from (record { at = from + 0; count = 0 })
-  below_start h = let e : from + 0 ≡ from = omega arith in rw e (below_none h)
-
-  module _ (k n : ℕ) (g : Below s limit from (record { at = from + 128 * k; count = n })) where
-    -- a block more
-    module _ (blocks : ℕ) (e : blocks ≡ (length s - from) / 128) (l : k < blocks) (b : Block) (o : OfBlock s (from + 128 * k) b) (v : ℕ) (w : v ≡ b.leads) where
-      pub below_block : (m : ℕ) → m ≡ (limit + 255) % 256 → b.most < m → Below s limit from (record { at = from + 128 * (k + 1); count = n + v })
-      unfolding before
-      below_block m i h =
-          let z : from + 128 * (k + 1) ≡ from + 128 * k + 128 = omega arith in
-          rw z (record {
-            forward = omega arith;
-            within = omega arith;
-            counted = leads-on s from (from + 128 * k) n 128 v g.forward g.counted (w ∙ o.counted);
-            low = λ q x y. elim (dec_lt q (from + 128 * k)) [
-              | yes z ↦ g.low q x z
-              | no z ↦ (
-                  let j : from + 128 * k + (q - (from + 128 * k)) ≡ q = omega arith in
-                  let t : before (get_or s q 0) ≤ b.most = rw j at (o.bounded (q - (from + 128 * k)) (omega arith)) in
-                  omega arith
-                  )
-            ];
-          })
-
-      pub block_fits : Fits w64 (length s) → Fits w64 (n + v)
-      block_fits f =
-          leads-fit s from (from + 128 * k) n 128 v g.forward g.counted (omega (arith, leads_le s (from + 128 * k) 128, o.counted)) (omega arith) f
-
-    -- no block is left
-    pub below_blocks : (blocks : ℕ) → blocks ≤ k → k ≤ blocks → Below s limit from (record { at = from + 128 * blocks; count = n })
-    below_blocks blocks h l = let e : blocks ≡ k = omega arith in rw e g
-
   module _ (r : Passed) (g : Below s limit from r) where
     below-passes : (p : Needle) → before limit ≤ before p.lead → Passes s p from r
     below-passes p h = record {
@@ -259,15 +226,15 @@ module _ (s : List ℕ) (limit from : ℕ) where
       record { passes = below-passes r g.below (needle_of ch) (rw (← e, ← f, ← i) l); boundary = g.boundary h }
 
   -- on to the first lead byte: a byte that continues a sequence is below every byte with which one of several begins
-  module _ (r : Passed) (g : Below s limit from r) (n : ℕ) (e : n ≡ position_or_len is_lead (rest s r.at)) where
+  module _ (r : Passed) (g : Below s limit from r) (n : ℕ) (e : n ≡ position_or_len is_lead (bytes_from s r.at)) where
     lead_within : n ≤ length s - r.at
-    lead_within = omega (arith, prefix_len-le-length (λ b. not (is_lead b)) (rest s r.at), rest_length s r.at)
+    lead_within = omega (arith, prefix_len-le-length (λ b. not (is_lead b)) (bytes_from s r.at), rest_length s r.at)
 
     pub lead_fits : Fits w64 (length s) → Fits w64 (r.at + n)
     lead_fits f = let l = lead_within in let w = g.within in omega arith
 
     continued : (j : ℕ) → j < n → is_lead (get_or s (r.at + j) 0) ≡ false
-    continued j l = rw (← rest_byte s r.at j) (fails_before_first is_lead (rest s r.at) j 0 (rw e at l))
+    continued j l = rw (← rest_byte s r.at j) (fails_before_first is_lead (bytes_from s r.at) j 0 (rw e at l))
 
     pub skips_on : 0xC0 ≤ limit → Fits w8 limit → SkipsBelow s limit from (record { at = r.at + n; count = r.count })
     skips_on m f =
@@ -289,10 +256,43 @@ module _ (s : List ℕ) (limit from : ℕ) where
             ];
           };
           boundary = λ x y.
-              let z : position_or_len is_lead (rest s r.at) < length (rest s r.at) = omega (arith, rest_length s r.at) in
-              let t = prefix_len_stops (λ b. not (is_lead b)) (rest s r.at) 0 z in
-              rw (e, ← rest_byte s r.at (position_or_len is_lead (rest s r.at))) (not-false _ t);
+              let z : position_or_len is_lead (bytes_from s r.at) < length (bytes_from s r.at) = omega (arith, rest_length s r.at) in
+              let t = prefix_len_stops (λ b. not (is_lead b)) (bytes_from s r.at) 0 z in
+              rw (e, ← rest_byte s r.at (position_or_len is_lead (bytes_from s r.at))) (not-false _ t);
         }
+
+module _ (s : List ℕ) (limit : ℕ) where
+  -- no block yet
+  pub below_start : Below s limit 0 (record { at = 0; count = 0 })
+  below_start = below_none s limit 0 (omega arith)
+
+  module _ (k n : ℕ) (g : Below s limit 0 (record { at = 128 * k; count = n })) where
+    -- a block more
+    module _ (l : k < length s / 128) (b : Block) (o : OfBlock s (128 * k) b) (v : ℕ) (w : v ≡ b.leads) where
+      pub below_block : (m : ℕ) → m ≡ (limit + 255) % 256 → b.most < m → Below s limit 0 (record { at = 128 * (k + 1); count = n + v })
+      unfolding before
+      below_block m i h =
+          let z : 128 * (k + 1) ≡ 128 * k + 128 = omega arith in
+          rw z (record {
+            forward = omega arith;
+            within = omega arith;
+            counted = leads-on s 0 (128 * k) n 128 v g.forward g.counted (w ∙ o.counted);
+            low = λ q x y. elim (dec_lt q (128 * k)) [
+              | yes z ↦ g.low q x z
+              | no z ↦ (
+                  let j : 128 * k + (q - 128 * k) ≡ q = omega arith in
+                  let t : before (get_or s q 0) ≤ b.most = rw j at (o.bounded (q - 128 * k) (omega arith)) in
+                  omega arith
+                  )
+            ];
+          })
+
+      pub block_fits : Fits w64 (length s) → Fits w64 (n + v)
+      block_fits f = leads-fit s 0 (128 * k) n 128 v g.forward g.counted (omega (arith, leads_le s (128 * k) 128, o.counted)) (omega arith) f
+
+    -- no block is left
+    pub below_blocks : (blocks : ℕ) → blocks ≤ k → k ≤ blocks → Below s limit 0 (record { at = 128 * blocks; count = n })
+    below_blocks blocks h l = let e : blocks ≡ k = omega arith in rw e g
 
 pub passes_lead : (s : List ℕ) (p : Needle) (from : ℕ) (r : Passed) → Below s p.lead from r → Passes s p from (record { at = r.at + 0; count = r.count })
 passes_lead s p from r g = let e : r.at + 0 ≡ r.at = omega arith in rw e (below-passes s p.lead from r g p (omega arith))
@@ -359,12 +359,10 @@ module _ (s : List ℕ) (p : Needle) (from : ℕ) where
     pub passes_all : (hits : ℕ) → hits ≤ k → k ≤ hits → Passes s p from (record { at = base + 64 * hits; count = n })
     passes_all hits h l = let e : hits ≡ k = omega arith in rw e g
 
-module _ (s : List ℕ) (p : Needle) (from : ℕ) (g r : Passed) (a : Passes s p from g) (b : Skips s p g.at r) where
-  pub join-fits : Fits w64 (length s) → Fits w64 (g.count + r.count)
-  join-fits f =
-      let c = b.passes in
-      leads-fit s from g.at g.count (r.at - g.at) r.count a.forward a.counted (omega (arith, leads_le s g.at (r.at - g.at))) (omega arith) f
+pub passes_start : (s : List ℕ) (p : Needle) → Passes s p 0 (record { at = 0; count = 0 })
+passes_start s p = passes_none s p 0 (omega arith)
 
+module _ (s : List ℕ) (p : Needle) (from : ℕ) (g r : Passed) (a : Passes s p from g) (b : Skips s p g.at r) where
   -- what was passed over one after the other
   pub skips_join : Skips s p from (record { at = r.at; count = g.count + r.count })
   skips_join =
@@ -379,6 +377,84 @@ module _ (s : List ℕ) (p : Needle) (from : ℕ) (g r : Passed) (a : Passes s p
         };
         boundary = b.boundary;
       }
+
+-- ---- what is passed over of the bytes from a position on
+
+module _ (s : List ℕ) (at : ℕ) where
+  leads_rest : (n : ℕ) → leads (bytes_from s at) 0 n ≡ leads s at n
+  unfolding leads
+  leads_rest zero = refl
+  leads_rest (suc n) = let e : 0 + n ≡ n = omega arith in rw (leads_rest n, e, rest_byte s at n)
+
+  begins_after : (p : Needle) (q : ℕ) → may_begin_at (bytes_from s at) p q ≡ may_begin_at s p (at + q)
+  begins_after p q =
+      let e : (j : ℕ) → at + (q + j) ≡ at + q + j = λ j. omega arith in
+      rw (rest_byte s at q, rest_byte s at (q + p.near), rest_byte s at (q + p.mid), rest_byte s at (q + p.end), e p.near, e p.mid, e p.end)
+
+  module _ (h : at ≤ length s) (r : Passed) where
+    -- to the end of what was passed over
+    to-end : r.at ≤ length (bytes_from s at) → at + r.at ≤ length s
+    to-end l = let e = rest_length s at in omega arith
+
+    counted-after : r.count ≡ leads (bytes_from s at) 0 (r.at - 0) → r.count ≡ leads s at (at + r.at - at)
+    counted-after e =
+        let i : r.at - 0 ≡ r.at = omega arith in
+        let j : at + r.at - at ≡ r.at = omega arith in
+        rw j (rw i at e ∙ leads_rest r.at)
+
+    lead-after : (r.at < length (bytes_from s at) → is_lead (get_or (bytes_from s at) r.at 0) ≡ true) → at + r.at < length s → is_lead (get_or s (at + r.at) 0) ≡ true
+    lead-after b l = rw (← rest_byte s at r.at) (b (omega (arith, rest_length s at)))
+
+    pub skips_below_after : (limit : ℕ) → SkipsBelow (bytes_from s at) limit 0 r → SkipsBelow s limit at (record { at = at + r.at; count = r.count })
+    skips_below_after limit g =
+        let b = g.below in
+        record {
+          below = record {
+            forward = omega arith;
+            within = to-end b.within;
+            counted = counted-after b.counted;
+            low = λ q x y.
+                let j : at + (q - at) ≡ q = omega arith in
+                let t = b.low (q - at) (omega arith) (omega arith) in
+                rw j at (rw (rest_byte s at (q - at)) at t);
+          };
+          boundary = λ x y. lead-after (λ l. g.boundary (omega arith) l) y;
+        }
+
+    pub skips_after : (p : Needle) → Skips (bytes_from s at) p 0 r → Skips s p at (record { at = at + r.at; count = r.count })
+    skips_after p g =
+        let a = g.passes in
+        record {
+          passes = record {
+            forward = omega arith;
+            within = to-end a.within;
+            counted = counted-after a.counted;
+            clear = λ q x y.
+                let j : at + (q - at) ≡ q = omega arith in
+                rw j at (sym (begins_after p (q - at)) ∙ a.clear (q - at) (omega arith) (omega arith));
+          };
+          boundary = λ l. lead-after g.boundary l;
+        }
+
+    pub after_fits : (limit : ℕ) → SkipsBelow (bytes_from s at) limit 0 r → Fits w64 (length s) → Fits w64 (at + r.at)
+    after_fits limit g f = let l = to-end g.below.within in omega arith
+
+-- one after the other from a position on
+module _ (s : List ℕ) (p : Needle) (at : ℕ) (g r : Passed) (h : at ≤ length s) (a : Passes (bytes_from s at) p 0 g) (b : Skips (bytes_from (bytes_from s at) g.at) p 0 r) where
+  join : Skips (bytes_from s at) p 0 (record { at = g.at + r.at; count = g.count + r.count })
+  join = skips_join (bytes_from s at) p 0 g (record { at = g.at + r.at; count = r.count }) a (skips_after (bytes_from s at) g.at a.within r p b)
+
+  pub both : Skips s p at (record { at = at + (g.at + r.at); count = g.count + r.count })
+  both = skips_after s at h (record { at = g.at + r.at; count = g.count + r.count }) p join
+
+  pub to_fits : Fits w64 (length s) → Fits w64 (at + (g.at + r.at))
+  to_fits f = let w = both.passes.within in omega arith
+
+  pub on_fits : Fits w64 (length s) → Fits w64 (g.at + r.at)
+  on_fits f = let w = both.passes.within in omega arith
+
+  pub count_fits : Fits w64 (length s) → Fits w64 (g.count + r.count)
+  count_fits f = let w = both.passes.within in omega (arith, leads_le s at (at + (g.at + r.at) - at), both.passes.counted)
 
 -- ---- the lead byte of a sequence
 

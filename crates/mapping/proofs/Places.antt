@@ -22,6 +22,7 @@ use Rattle.mapping.specs.declared.search.Passed.{Passed}
 use Rattle.mapping.specs.Search.{SkipsBelow, StartOf}
 use Rattle.mapping.specs.Entries.{entry_at, after_entry, in_range, at_most, glyph_at, stop_refusal, ListFrom, WithinLimit}
 use Rattle.mapping.specs.Mapping.{from_to, spelled, list_of, place_from, refusal}
+use Rattle.mapping.proofs.Blocks.{bytes_from, skips_below_after}
 use Rattle.mapping.proofs.Ranges.{length_range_le, length_range_through, place_in, place_past}
 use Rattle.mapping.proofs.Entries.{StoppedEntry, entry_range, entry_stopped, entry_ill_formed, entry_end, stopped_entry}
 
@@ -174,6 +175,11 @@ after-within s at {x} e n i = by x e i
 pub start_made : (s : List ℕ) (x : Entry) (lead from : ℕ) (r : Passed) → x ≡ entry_at s 0 → from ≡ after_entry x → SkipsBelow s lead from r
     → StartOf s (record { first = x; lead = lead; passed = r })
 start_made s x lead from r e i g = record { first = e; passed = rw i at g }
+
+-- bytes passed over after the first entry
+pub start_after : (s : List ℕ) (x : Entry) (lead from : ℕ) (r : Passed) → x ≡ entry_at s 0 → from ≡ after_entry x → SkipsBelow (bytes_from s from) lead 0 r
+    → StartOf s (record { first = x; lead = lead; passed = record { at = from + r.at; count = r.count } })
+start_after s x lead from r e i g = start_made s x lead from _ e i (skips_below_after s from (after-within s 0 e from i) r lead g)
 
 pub start_below : (s : List ℕ) (x : Start) → StartOf s x → {start end : ℕ} {c : Cursor} → x.first ≡ entry.Range start end c
     → SkipsBelow s x.lead c.at x.passed

@@ -2,7 +2,7 @@
 use mathlib.Core.Path.{◌≡◌, refl, sym, ◌∙◌}
 use mathlib.Core.Bool.{Bool, true, false, ◌||◌, true≢false}
 use mathlib.Core.List.{List, ◌∷◌}
-use Prim.Native.Nat.{ℕ, zero, suc, ◌+◌, ◌-◌, ◌<◌, ◌≤◌, min}
+use Prim.Native.Nat.{ℕ, zero, suc, ◌+◌, ◌-◌, ◌%◌, ◌<◌, ◌≤◌, min}
 use native.Mathlib.Omega.{arith}
 use native.Mathlib.Decide.{dec_lt}
 use borrow.Author.Tests.{eq-eqb, ne_eqb}
@@ -21,8 +21,8 @@ use Rattle.mapping.specs.declared.Entry.TheVariants as entry
 use Rattle.std.specs.Prelude.{Option, None}
 use Rattle.mapping.specs.Entries.{entry_at, at_most, ListFrom}
 use Rattle.mapping.specs.Mapping.{spelled, place_from}
-use Rattle.mapping.specs.Search.{is_lead, leads, needle_of, may_begin, may_begin_at, Passes, Skips, Resumes}
-use Rattle.mapping.proofs.Blocks.{leads-append, leads_one, passes_none, skips_join}
+use Rattle.mapping.specs.Search.{is_lead, leads, needle_of, may_begin, may_begin_at, SkipsBelow, Passes, Skips, Resumes}
+use Rattle.mapping.proofs.Blocks.{leads-append, leads_one, passes_none, skips_from, bytes_from, both}
 use Rattle.mapping.proofs.Entries.{StoppedEntry, entry_range}
 use Rattle.mapping.proofs.Places.{place_capped, find_stopped}
 use Rattle.mapping.proofs.Sequences.{Spelt, step_spelt}
@@ -41,9 +41,9 @@ pub skips_none : (s : List ℕ) (p : Needle) (from : ℕ) → ListFrom s from �
 skips_none s p from g = record { passes = passes_none s p from g.within; boundary = λ h. well_lead s from (step_at s from) refl g.well h }
 
 -- the needle that was found is the character's
-pub skips_needle : (s : List ℕ) (ch : ℕ) (p : Needle) (from : ℕ) (g r : Passed) (k : ℕ) → p ≡ needle_of ch → Passes s p from g → Skips s p g.at r
-    → k ≡ g.count + r.count → Skips s (needle_of ch) from (record { at = r.at; count = k })
-skips_needle s ch p from g r k e a b f = rw (← e, f) (skips_join s p from g r a b)
+pub skips_needle : (s : List ℕ) (ch : ℕ) (p : Needle) (from : ℕ) (g r : Passed) → p ≡ needle_of ch → ListFrom s from → Passes (bytes_from s from) p 0 g
+    → Skips (bytes_from (bytes_from s from) g.at) p 0 r → Skips s (needle_of ch) from (record { at = from + (g.at + r.at); count = g.count + r.count })
+skips_needle s ch p from g r e h a b = rw (← e) (both s p from g r h.within a b)
 
 module _ (s : List ℕ) (ch : ℕ) where
   -- where 00 or the character stands, it may begin
@@ -148,13 +148,16 @@ pub resumes_here : (s : List ℕ) (ch from k : ℕ) → ListFrom s from → k �
 resumes_here s ch from k l h = record { list = l; small = h; placed = refl }
 
 -- after what was passed over, counted from as many as that has
-pub resumes : (s : List ℕ) (ch from : ℕ) (r : Passed) → Skips s (needle_of ch) from r → ListFrom s from → (k m j : ℕ) → m ≡ min r.count 65_536
+pub resumes : (s : List ℕ) (ch from limit : ℕ) (r : Passed) → SkipsBelow s limit from r → ListFrom s from → (lead x y : ℕ) → lead ≡ (needle_of ch).lead
+    → x ≡ (lead + 255) % 256 → y ≡ (limit + 255) % 256 → from < r.at → y ≤ x → (k m j : ℕ) → m ≡ min r.count 65_536
     → j ≡ min (k + m) 65_536 → Resumes s ch from k (record { at = r.at; count = j })
-resumes s ch from r g l k m j a b = record {
-  list = record { within = g.passes.within; well = skip_well s ch from r g l.well };
-  small = omega arith;
-  placed = skip_again s ch from r g l.well 65_536 k m j _ a b refl;
-}
+resumes s ch from limit r g l lead x y e f i h o k m j a b =
+    let t = skips_from s limit from r g ch lead y x e i f h o in
+    record {
+      list = record { within = t.passes.within; well = skip_well s ch from r t l.well };
+      small = omega arith;
+      placed = skip_again s ch from r t l.well 65_536 k m j _ a b refl;
+    }
 
 pub resumed : (s : List ℕ) (ch from k : ℕ) (r : Passed) (f : Option ℕ) → Resumes s ch from k r
     → f ≡ at_most 65_536 (place_from r.count ch (spelled (chars_from s r.at))) → f ≡ at_most 65_536 (place_from k ch (spelled (chars_from s from)))

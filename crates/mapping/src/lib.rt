@@ -135,18 +135,21 @@ fn find(mapping: &[u8], from: Cursor, count: u64, ch: u32) -> Option<u32>
     }
 }
 
-// From where on ch is looked for after `from`, and how many characters are counted by there if `count` are by `from`: after `below`
-// if the sequence of ch begins with `lead` or a higher byte.
-fn resume(mapping: &[u8], from: usize, lead: u8, below: Passed, count: u64, ch: u32) -> Passed
+// From where on ch is looked for after the first entry, and how many characters are counted by there if `count` are by `from`: after
+// what is passed over if the sequence of ch begins with the start's lead byte or a higher one.
+fn resume(mapping: &[u8], start: Start, from: usize, count: u64, ch: u32) -> Passed
     requires list_from { ListFrom mapping.now from }
-    requires skips_below { SkipsBelow mapping.now lead from below }
+    requires skips_below { SkipsBelow mapping.now start.lead from start.passed }
     requires count_bound { count ≤ 65_536 }
     ensures { Resumes mapping.now ch from count result }
 {
-    if below.at <= from {
+    let passed = start.passed;
+    if passed.at <= from {
         return Passed { at: from, count };
     }
-    let passed = search::passed_for(mapping, from, lead, below, ch);
+    if search::lead_of(ch).wrapping_sub(1) < start.lead.wrapping_sub(1) {
+        return Passed { at: from, count };
+    }
     let more = passed.count.min(65536);
     let counted = (count + more).min(65536);
     Passed {
@@ -162,22 +165,23 @@ pub fn start_of(mapping: &[u8], text: &[u8]) -> Start
 {
     let first = entry_at(mapping, Cursor { at: 0 });
     let at = after_entry(first);
-    let nothing = Passed { at, count: 0 };
-    if mapping.len() - at < 128 {
-        return Start {
-            first,
-            lead: 0,
-            passed: nothing,
-        };
+    let nothing = Start {
+        first,
+        lead: 0,
+        passed: Passed { at, count: 0 },
+    };
+    let rest = &mapping[at..];
+    if rest.len() < 128 {
+        return nothing;
     }
     let Some(lead) = search::least_lead(text) else {
-        return Start {
-            first,
-            lead: 0,
-            passed: nothing,
-        };
+        return nothing;
     };
-    let passed = search::pass_below(mapping, at, lead);
+    let below = search::pass_below(rest, lead);
+    let passed = Passed {
+        at: at + below.at,
+        count: below.count,
+    };
     Start {
         first,
         lead,
@@ -211,7 +215,7 @@ pub fn glyph_with(mapping: &[u8], start: Start, replacement: u32, ch: u32) -> Gl
         return glyph_at(Some(index), replacement);
     }
     let len = range_len(low, high).min(65536);
-    let from = resume(mapping, after.at, start.lead, start.passed, len, ch);
+    let from = resume(mapping, start, after.at, len, ch);
     let place = find(mapping, Cursor { at: from.at }, from.count, ch);
     glyph_at(place, replacement)
 }

@@ -18,6 +18,13 @@ pub struct Needle {
     pub end: usize,
 }
 
+// A needle that a character has.
+#[derive(Clone, Copy)]
+struct Sought {
+    needle: Needle,
+    ghost is_needle: { IsNeedle needle },
+}
+
 // Of 128 bytes: the greatest, where 00 comes after FF and each counts one less, and how many are lead bytes.
 #[derive(Clone, Copy)]
 pub struct Block {
@@ -95,11 +102,10 @@ fn needle_of(ch: u32) -> Needle
 }
 
 // The first byte of a character's sequence.
-fn lead_of(ch: u32) -> u8
+pub fn lead_of(ch: u32) -> u8
     ensures { result ≡ (needle_of ch).lead }
 {
-    let needle = needle_of(ch);
-    needle.lead
+    needle_of(ch).lead
 }
 
 // The least byte of a text with which a sequence of several bytes begins.
@@ -127,74 +133,50 @@ fn may_begin(needle: Needle, a: u8, b: u8, c: u8, d: u8) -> bool
 }
 
 // The 128 bytes from `at` on.
-fn read_block(mapping: &[u8], at: usize) -> Block
-    requires { at + 128 ≤ length mapping.now }
-    ensures { OfBlock mapping.now at result }
+fn read_block(bytes: &[u8], at: usize) -> Block
+    requires { at + 128 ≤ length bytes.now }
+    ensures { OfBlock bytes.now at result }
 {
     let mut most: u8 = 0;
     let mut leads: u8 = 0;
     for i in 0..128 {
-        let b = mapping[at + i];
+        let b = bytes[at + i];
         most = most.max(b.wrapping_sub(1));
         leads += u8::from(is_lead(b));
     }
     Block { most, leads }
 }
 
-// How many of 64 bytes are left from the first on with which a range or the character may begin.
-fn hit(mapping: &[u8], at: usize, needle: Needle) -> u8
-    requires at_in_bounds { at + 67 ≤ length mapping.now }
-    requires needle { IsNeedle needle }
-    ensures { OfHit mapping.now needle at result }
-{
-    let near = needle.near;
-    let mid = needle.mid;
-    let end = needle.end;
-    let mut found: u8 = 0;
-    for i in 0..64 {
-        let from = at + i;
-        let a = mapping[from];
-        let b = mapping[from + near];
-        let c = mapping[from + mid];
-        let d = mapping[from + end];
-        if may_begin(needle, a, b, c, d) {
-            found = found.max(64 - i as u8);
-        }
-    }
-    found
-}
-
 // How many of the first n of 64 bytes are lead bytes.
-fn leads_of(mapping: &[u8], at: usize, n: u8) -> u8
-    requires at_in_bounds { at + 64 ≤ length mapping.now }
+fn leads_of(bytes: &[u8], at: usize, n: u8) -> u8
+    requires at_in_bounds { at + 64 ≤ length bytes.now }
     requires n_bound { n ≤ 64 }
-    ensures { result ≡ leads mapping.now at n }
+    ensures { result ≡ leads bytes.now at n }
 {
     let mut count: u8 = 0;
     for i in 0..64 {
-        let lead = u8::from(is_lead(mapping[at + i]));
+        let lead = u8::from(is_lead(bytes[at + i]));
         count += lead.min(n.saturating_sub(i as u8));
     }
     count
 }
 
 // Passes over blocks of bytes that are below `lead`, and not 00.
-fn pass_blocks(mapping: &[u8], from: usize, lead: u8) -> Passed
-    requires { from ≤ length mapping.now }
-    ensures { Below mapping.now lead from result }
+fn pass_blocks(bytes: &[u8], lead: u8) -> Passed
+    ensures { Below bytes.now lead 0 result }
 {
-    let blocks = (mapping.len() - from) / 128;
+    let blocks = bytes.len() / 128;
     let mut count: u64 = 0;
     for k in 0..blocks {
-        let at = from + 128 * k;
-        let block = read_block(mapping, at);
+        let at = 128 * k;
+        let block = read_block(bytes, at);
         if lead.wrapping_sub(1) <= block.most {
             return Passed { at, count };
         }
         count += u64::from(block.leads);
     }
     Passed {
-        at: from + 128 * blocks,
+        at: 128 * blocks,
         count,
     }
 }
@@ -210,57 +192,14 @@ fn before_lead(bytes: &[u8]) -> usize
 }
 
 // The same, and on to the next lead byte.
-pub fn pass_below(mapping: &[u8], from: usize, lead: u8) -> Passed
-    requires from_in_bounds { from ≤ length mapping.now }
-    requires le_lead { 0xC0 ≤ lead }
-    ensures { SkipsBelow mapping.now lead from result }
+pub fn pass_below(bytes: &[u8], lead: u8) -> Passed
+    requires { 0xC0 ≤ lead }
+    ensures { SkipsBelow bytes.now lead 0 result }
 {
-    let blocks = pass_blocks(mapping, from, lead);
+    let blocks = pass_blocks(bytes, lead);
     Passed {
-        at: blocks.at + before_lead(&mapping[blocks.at..]),
+        at: blocks.at + before_lead(&bytes[blocks.at..]),
         count: blocks.count,
-    }
-}
-
-// What is passed over for ch: `passed`, if the sequence of ch begins with `lead` or a higher byte, else nothing.
-pub fn passed_for(mapping: &[u8], from: usize, lead: u8, passed: Passed, ch: u32) -> Passed
-    requires list_from { ListFrom mapping.now from }
-    requires skips_below { SkipsBelow mapping.now lead from passed }
-    requires from_lt_at { from < passed.at }
-    ensures { Skips mapping.now (needle_of ch) from result }
-{
-    if lead.wrapping_sub(1) <= lead_of(ch).wrapping_sub(1) {
-        return passed;
-    }
-    Passed { at: from, count: 0 }
-}
-
-// Passes over bytes with which neither a range nor the character begins.
-fn pass(mapping: &[u8], from: usize, needle: Needle) -> Passed
-    requires from_in_bounds { from ≤ length mapping.now }
-    requires needle { IsNeedle needle }
-    ensures { Passes mapping.now needle from result }
-{
-    let blocks = pass_blocks(mapping, from, needle.lead);
-    // A sequence that begins in the 64 bytes reaches up to 3 bytes on.
-    let hits = (mapping.len() - blocks.at).saturating_sub(3) / 64;
-    let mut count = blocks.count;
-    for k in 0..hits {
-        let at = blocks.at + 64 * k;
-        let left = hit(mapping, at, needle);
-        if 0 < left {
-            let n = 64 - left;
-            count += u64::from(leads_of(mapping, at, n));
-            return Passed {
-                at: at + usize::from(n),
-                count,
-            };
-        }
-        count += u64::from(leads_of(mapping, at, 64));
-    }
-    Passed {
-        at: blocks.at + 64 * hits,
-        count,
     }
 }
 
@@ -272,11 +211,11 @@ fn byte_on(rest: &[u8], by: usize) -> u8
 }
 
 // Whether a range or the character may begin at a position.
-fn begins_at(mapping: &[u8], at: usize, needle: Needle) -> bool
-    requires { at < length mapping.now }
-    ensures { result ≡ may_begin_at mapping.now needle at }
+fn begins_at(bytes: &[u8], at: usize, needle: Needle) -> bool
+    requires { at < length bytes.now }
+    ensures { result ≡ may_begin_at bytes.now needle at }
 {
-    let rest = &mapping[at..];
+    let rest = &bytes[at..];
     let a = rest[0];
     let b = byte_on(rest, needle.near);
     let c = byte_on(rest, needle.mid);
@@ -284,31 +223,81 @@ fn begins_at(mapping: &[u8], at: usize, needle: Needle) -> bool
     may_begin(needle, a, b, c, d)
 }
 
-// The same byte by byte, to where a range or the character may begin, or to the end.
-fn pass_bytes(mapping: &[u8], from: usize, needle: Needle) -> Passed
-    requires from_in_bounds { from ≤ length mapping.now }
-    requires needle { IsNeedle needle }
-    ensures { Skips mapping.now needle from result }
-{
-    let mut count: u64 = 0;
-    for at in from..mapping.len() {
-        if begins_at(mapping, at, needle) {
-            return Passed { at, count };
+impl Sought {
+    // How many of 64 bytes are left from the first on with which a range or the character may begin.
+    fn hit(self, bytes: &[u8], at: usize) -> u8
+        requires { at + 67 ≤ length bytes.now }
+        ensures { OfHit bytes.now self.needle at result }
+    {
+        let needle = self.needle;
+        let near = needle.near;
+        let mid = needle.mid;
+        let end = needle.end;
+        let mut found: u8 = 0;
+        for i in 0..64 {
+            let from = at + i;
+            let a = bytes[from];
+            let b = bytes[from + near];
+            let c = bytes[from + mid];
+            let d = bytes[from + end];
+            if may_begin(needle, a, b, c, d) {
+                found = found.max(64 - i as u8);
+            }
         }
-        count += u64::from(is_lead(mapping[at]));
+        found
     }
-    Passed {
-        at: mapping.len(),
-        count,
+
+    // Passes over bytes with which neither a range nor the character begins.
+    fn pass(self, bytes: &[u8]) -> Passed
+        ensures { Passes bytes.now self.needle 0 result }
+    {
+        let blocks = pass_blocks(bytes, self.needle.lead);
+        // A sequence that begins in the 64 bytes reaches up to 3 bytes on.
+        let hits = (bytes.len() - blocks.at).saturating_sub(3) / 64;
+        let mut count = blocks.count;
+        for k in 0..hits {
+            let at = blocks.at + 64 * k;
+            let left = self.hit(bytes, at);
+            if 0 < left {
+                let n = 64 - left;
+                count += u64::from(leads_of(bytes, at, n));
+                return Passed {
+                    at: at + usize::from(n),
+                    count,
+                };
+            }
+            count += u64::from(leads_of(bytes, at, 64));
+        }
+        Passed {
+            at: blocks.at + 64 * hits,
+            count,
+        }
+    }
+
+    // The same byte by byte, to where a range or the character may begin, or to the end.
+    fn pass_bytes(self, bytes: &[u8]) -> Passed
+        ensures { Skips bytes.now self.needle 0 result }
+    {
+        let mut count: u64 = 0;
+        for at in 0..bytes.len() {
+            if begins_at(bytes, at, self.needle) {
+                return Passed { at, count };
+            }
+            count += u64::from(is_lead(bytes[at]));
+        }
+        Passed {
+            at: bytes.len(),
+            count,
+        }
     }
 }
 
-// Whether a range begins, or the mapping ends, within the bytes after the first: then a block is not worth its while.
+// Whether a range begins, or the mapping ends, within four bytes: then a block is not worth its while.
 fn is_near(rest: &[u8]) -> bool {
-    let [_, b, c, d, ..] = rest else {
+    let [a, b, c, d, ..] = rest else {
         return true;
     };
-    (*b == 0) | ((*c == 0) | (*d == 0))
+    (*a == 0) | ((*b == 0) | ((*c == 0) | (*d == 0)))
 }
 
 // Passes over singly listed characters other than ch.
@@ -316,19 +305,17 @@ pub fn skip(mapping: &[u8], from: usize, ch: u32) -> Passed
     requires { ListFrom mapping.now from }
     ensures { Skips mapping.now (needle_of ch) from result }
 {
-    if mapping.len() <= from {
+    let rest = &mapping[from..];
+    if is_near(rest) {
         return Passed { at: from, count: 0 };
     }
-    if mapping[from] == 0 {
-        return Passed { at: from, count: 0 };
+    let sought = Sought {
+        needle: needle_of(ch),
+    };
+    let blocks = sought.pass(rest);
+    let bytes = sought.pass_bytes(&rest[blocks.at..]);
+    Passed {
+        at: from + (blocks.at + bytes.at),
+        count: blocks.count + bytes.count,
     }
-    if is_near(&mapping[from..]) {
-        return Passed { at: from, count: 0 };
-    }
-    let needle = needle_of(ch);
-    let blocks = pass(mapping, from, needle);
-    let bytes = pass_bytes(mapping, blocks.at, needle);
-    let at = bytes.at;
-    let count = blocks.count + bytes.count;
-    Passed { at, count }
 }

@@ -1,7 +1,7 @@
 -- The invariant: what was passed over. Assumes nothing.
-use Prim.Native.Nat.{◌+◌, ◌*◌}
+use Prim.Native.Nat.{◌*◌}
 use Rattle.mapping.specs.Search.{Below}
 use Rattle.mapping.proofs.search.pass_blocks.Given as goal
 
 abbrev pub invariant-loop-k : goal.invariant-loop-k
-invariant-loop-k l = Below l.mapping l.lead l.from (record { at = l.from + 128 * l.k; count = l.count })
+invariant-loop-k l = Below l.bytes l.lead 0 (record { at = 128 * l.k; count = l.count })

@@ -7,5 +7,5 @@ use Rattle.mapping.specs.Search as search-specs
 use Rattle.mapping.proofs.search.read_block.Given as goal
 
 abbrev pub invariant-loop-i : goal.invariant-loop-i
-invariant-loop-i l = (l.leads ≡ search-specs.leads l.mapping l.at l.i)
-    × ((j : ℕ) → j < l.i → before (get_or l.mapping (l.at + j) 0) ≤ l.most)
+invariant-loop-i l = (l.leads ≡ search-specs.leads l.bytes l.at l.i)
+    × ((j : ℕ) → j < l.i → before (get_or l.bytes (l.at + j) 0) ≤ l.most)

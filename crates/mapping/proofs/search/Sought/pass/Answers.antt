@@ -1,6 +1,6 @@
 -- The invariant: what was passed over. Assumes nothing.
 use Rattle.mapping.proofs.Blocks.{passes_lead, upto_fits, passes_hit, through_fits, passes_through, passes_all}
-use Rattle.mapping.proofs.search.pass.Goals as goal
+use Rattle.mapping.proofs.search.Sought.pass.Goals as goal
 
 pub loop-k-init : goal.loop-k-init
 loop-k-init c = search passes_lead

@@ -2,8 +2,8 @@
 use native.Mathlib.Omega.{arith}
 use borrow.Author.Rules.{rules}
 use Rattle.mapping.proofs.Blocks.{hit_found, hit_none, hit_whole}
-use Rattle.mapping.proofs.search.hit.Goals.{then-may_begin, else-may_begin}
-use Rattle.mapping.proofs.search.hit.Goals as goal
+use Rattle.mapping.proofs.search.Sought.hit.Goals.{then-may_begin, else-may_begin}
+use Rattle.mapping.proofs.search.Sought.hit.Goals as goal
 
 pub loop-i-init : goal.loop-i-init
 loop-i-init c = (search rules, λ j a b. absurd (omega arith))

@@ -3,8 +3,8 @@ use mathlib.Core.Path.{◌≡◌}
 use mathlib.Core.Bool.{false}
 use Prim.Native.Nat.{ℕ, ◌+◌, ◌<◌, ◌≤◌}
 use Rattle.mapping.specs.Search.{may_begin_at}
-use Rattle.mapping.proofs.search.hit.Given as goal
+use Rattle.mapping.proofs.search.Sought.hit.Given as goal
 
 abbrev pub invariant-loop-i : goal.invariant-loop-i
 invariant-loop-i l = (l.found ≤ 64)
-    × ((j : ℕ) → j < l.i → j + l.found < 64 → may_begin_at l.mapping l.needle (l.at + j) ≡ false)
+    × ((j : ℕ) → j < l.i → j + l.found < 64 → may_begin_at l.bytes l.needle (l.at + j) ≡ false)

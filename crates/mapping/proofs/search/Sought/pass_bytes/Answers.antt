@@ -1,9 +1,9 @@
 -- The invariant: what was passed over. Assumes nothing.
-use Rattle.mapping.proofs.Blocks.{passes_none, byte_fits, passes_byte, skips_begin, skips_past}
-use Rattle.mapping.proofs.search.pass_bytes.Goals as goal
+use Rattle.mapping.proofs.Blocks.{passes_start, byte_fits, passes_byte, skips_begin, skips_past}
+use Rattle.mapping.proofs.search.Sought.pass_bytes.Goals as goal
 
 pub loop-at-init : goal.loop-at-init
-loop-at-init c = search passes_none
+loop-at-init c = search passes_start
 
 pub returns-then-begins_at : goal.returns-then-begins_at
 returns-then-begins_at c = search skips_begin
