@@ -13,7 +13,9 @@ use Rattle.characters.specs.Refusal.{need}
 use Rattle.characters.specs.Utf8.{is_surrogate, well_formed}
 use Rattle.characters.proofs.Steps.{cond_both, IsScalar}
 use Rattle.characters.proofs.Folds.{chars-scalar}
-use Rattle.std.specs.Prelude.{Option, Some, None, unwrap_or, is_some}
+use Rattle.std.specs.Prelude.{Option, Some, None, unwrap_or, is_some, Result, Ok}
+use Rattle.refusals.specs.declared.Refusal.{Refusal}
+use Rattle.refusals.specs.Numbers.{refusal_of}
 use Rattle.mapping.specs.Entries.{WithinLimit}
 use Rattle.mapping.specs.Mapping.{scalars_from, from_to, spelled, list_of, place_from, index, contains, refusal}
 use Rattle.mapping.proofs.Places.{place_below}
@@ -86,3 +88,6 @@ accepted_within mapping n e z = by (well_formed mapping) (leb (length (list_of m
     by true true p q z = record { well = p; spelled = leb-true _ _ q }
     by true false p q z = absurd (omega arith)
     by false l p q z = absurd (omega arith)
+
+pub checked_within : {A : Type 0} {x : A} (mapping : List ℕ) (r : Result A Refusal) → refusal_of r ≡ refusal mapping → r ≡ Ok x → WithinLimit mapping
+checked_within mapping r e q = accepted_within mapping (refusal_of r) e (ap refusal_of q)

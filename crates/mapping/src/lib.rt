@@ -2,19 +2,21 @@
 #![tactic(auto)]
 
 ghost use Rattle.std.specs.Prelude.{◌≡◌, ◌≤◌, length};
+ghost use Rattle.refusals.specs.Numbers.{refusal_of};
 ghost use Rattle.characters.specs.Utf8.{chars_from};
 ghost use Rattle.mapping.specs.Entries.{entry_at, after_entry, stop_of, in_range, scalars_below, at_most, glyph_at, stop_refusal, ListFrom, WithinLimit};
 ghost use Rattle.mapping.specs.Mapping.{from_to, spelled, place_from, glyph, contains, refusal};
 ghost use Rattle.mapping.specs.Search.{SkipsBelow, StartOf, Resumes};
 
 use characters::{Cursor, Step};
+use refusals::Refusal;
 use search::Passed;
 
 pub mod search;
 
 // What stands at a position of a mapping: a range of characters and the position after it, a sequence that RFC 3629 does not
 // allow, or the end of the list.
-#[derive(Clone, Copy)]
+#[derive(Clone, Copy, Debug, PartialEq, Eq)]
 pub enum Entry {
     Range(u32, u32, Cursor),
     IllFormed,
@@ -23,7 +25,7 @@ pub enum Entry {
 
 // The glyph of a character: its index, and whether the mapping lists the character. No Option: a character that is not listed has an
 // index too, the replacement's.
-#[derive(Clone, Copy)]
+#[derive(Clone, Copy, Debug, PartialEq, Eq)]
 pub struct Glyph {
     pub index: u32,
     pub listed: bool,
@@ -238,22 +240,22 @@ pub fn contains(mapping: &[u8], ch: u32) -> bool
 }
 
 // The refusal where a mapping's entries stop, after so many characters.
-fn stop_refusal(stop: Entry, count: u64) -> u32
-    ensures { result ≡ stop_refusal stop count }
+fn stop_refusal(stop: Entry, count: u64) -> Result<(), Refusal>
+    ensures { refusal_of result ≡ stop_refusal stop count }
 {
     let Entry::End = stop else {
-        return 7;
+        return Err(Refusal::MappingIllFormed);
     };
-    if count <= 65536 {
-        return 0;
+    if 65536 < count {
+        return Err(Refusal::MappingTooLong);
     }
-    8
+    Ok(())
 }
 
-// 7 for an ill-formed mapping, 8 for one that spells more than 65,536 characters, else 0. The loop has a cursor and no iterator, since
-// each entry says where the next begins.
-pub fn check_mapping(mapping: &[u8]) -> u32
-    ensures { result ≡ refusal mapping.now }
+// Refuses an ill-formed mapping, and one that spells more than 65,536 characters. The loop has a cursor and no iterator, since each entry
+// says where the next begins.
+pub fn check_mapping(mapping: &[u8]) -> Result<(), Refusal>
+    ensures { refusal_of result ≡ refusal mapping.now }
 {
     let mut c = Cursor { at: 0 };
     let mut count: u64 = 0;

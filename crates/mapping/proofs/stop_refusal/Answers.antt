@@ -5,8 +5,8 @@ use Rattle.mapping.proofs.stop_refusal.Goals as goal
 pub returns-in_default : goal.returns-in_default
 returns-in_default c = search (refusal_ill_formed, c.in_default.not-End)
 
-pub returns-then-count-le65536 : goal.returns-then-count-le65536
-returns-then-count-le65536 c = search refusal_none
+pub returns-then-count-gt65536 : goal.returns-then-count-gt65536
+returns-then-count-gt65536 c = search refusal_limit
 
 pub returns : goal.returns
-returns c = search refusal_limit
+returns c = search refusal_none
