@@ -25,10 +25,6 @@ use Rattle.mapping.specs.declared.search.Passed.{Passed}
 use Rattle.mapping.specs.Search.{is_lead, leads, may_begin, may_begin_at, before, needle_of, OfBlock, OfHit, Below, SkipsBelow, Passes, Skips, IsNeedle}
 use Rattle.mapping.proofs.Sequences.{continues}
 
-pub begins_read : (s : List ℕ) (p : Needle) (at a b c d : ℕ) (t : Bool) → t ≡ may_begin p a b c d → a ≡ get_or s at 0 → b ≡ get_or s (at + p.near) 0
-    → c ≡ get_or s (at + p.mid) 0 → d ≡ get_or s (at + p.end) 0 → t ≡ may_begin_at s p at
-begins_read s p at a b c d t e x y z w = e ∙ rw (x, y, z, w)
-
 -- ---- the bytes from a position on
 
 abbrev pub bytes_from : List ℕ → ℕ → List ℕ
@@ -43,12 +39,6 @@ module _ (s : List ℕ) (at : ℕ) where
 
   rest_length : length (bytes_from s at) ≡ length s - at
   rest_length = ap length rest_is ∙ length-drop at s
-
-  pub begins_rest : (p : Needle) (b c d : ℕ) (t : Bool) → t ≡ may_begin p (get_or (bytes_from s at) 0 0) b c d → b ≡ get_or (bytes_from s at) p.near 0
-      → c ≡ get_or (bytes_from s at) p.mid 0 → d ≡ get_or (bytes_from s at) p.end 0 → t ≡ may_begin_at s p at
-  begins_rest p b c d t e y z w =
-      let o : at + 0 ≡ at = omega arith in
-      begins_read s p at (get_or (bytes_from s at) 0 0) b c d t e (rest_byte 0 ∙ rw o) (y ∙ rest_byte p.near) (z ∙ rest_byte p.mid) (w ∙ rest_byte p.end)
 
 -- ---- lead bytes
 
@@ -127,9 +117,6 @@ module _ (s : List ℕ) (at : ℕ) where
   pub counted-fits : (n i k x y v : ℕ) (t : Bool) → i < 64 → k ≡ leads s at (min i n) → x ≡ from_bool t → v ≡ min x y → Fits w8 (k + v)
   counted-fits n i k x y v t l e h w = omega (arith, leads_le s at (min i n), one_is t, one_le t)
 
-  pub counted-all : (n i k : ℕ) → n ≤ 64 → 64 ≤ i → k ≡ leads s at (min i n) → k ≡ leads s at n
-  counted-all n i k h l e = let m : min i n ≡ n = omega arith in rw m at e
-
   -- ---- 128 bytes
 
   pub bounded_more : (i most m b : ℕ) → ((j : ℕ) → j < i → before (get_or s (at + j) 0) ≤ most) → b ≡ get_or s (at + i) 0 → m ≡ max most ((b + 255) % 256)
@@ -143,34 +130,6 @@ module _ (s : List ℕ) (at : ℕ) where
         omega arith
         )
   ]
-
-  pub block_whole : (i most n : ℕ) → 128 ≤ i → i ≤ 128 → n ≡ leads s at i → ((j : ℕ) → j < i → before (get_or s (at + j) 0) ≤ most)
-      → OfBlock s at (record { most = most; leads = n })
-  block_whole i most n l h e b =
-      let q : i ≡ 128 = omega arith in
-      record { bounded = λ j k. b j (omega arith); counted = rw q at e }
-
-  -- ---- 64 bytes
-
-  module _ (p : Needle) where
-    module _ (i found : ℕ) (h : (j : ℕ) → j < i → j + found < 64 → may_begin_at s p (at + j) ≡ false) where
-      pub hit_found : (m f : ℕ) → m ≡ max found (64 - i) → f ≡ m → (j : ℕ) → j < i + 1 → j + f < 64 → may_begin_at s p (at + j) ≡ false
-      hit_found m f e g j l k = h j (omega arith) (omega arith)
-
-      pub hit_none : (f a b c d : ℕ) (t : Bool) → t ≡ may_begin p a b c d → a ≡ get_or s (at + i) 0 → b ≡ get_or s (at + i + p.near) 0
-          → c ≡ get_or s (at + i + p.mid) 0 → d ≡ get_or s (at + i + p.end) 0 → t ≡ false → f ≡ found
-          → (j : ℕ) → j < i + 1 → j + f < 64 → may_begin_at s p (at + j) ≡ false
-      hit_none f a b c d t o x y z w n g j l k = elim (dec_lt j i) [
-        | yes q ↦ h j q (omega arith)
-        | no q ↦ (
-            let e : j ≡ i = omega arith in
-            let r : t ≡ may_begin_at s p (at + j) = rw e (begins_read s p (at + i) a b c d t o x y z w) in
-            sym r ∙ n
-            )
-      ]
-
-    pub hit_whole : (i f : ℕ) → 64 ≤ i → f ≤ 64 → ((j : ℕ) → j < i → j + f < 64 → may_begin_at s p (at + j) ≡ false) → OfHit s p at f
-    hit_whole i f l h b = record { most = h; clear = λ j k. b j (omega arith) k }
 
 -- ---- bytes that are passed over
 
@@ -290,10 +249,6 @@ module _ (s : List ℕ) (limit : ℕ) where
       pub block_fits : Fits w64 (length s) → Fits w64 (n + v)
       block_fits f = leads-fit s 0 (128 * k) n 128 v g.forward g.counted (omega (arith, leads_le s (128 * k) 128, o.counted)) (omega arith) f
 
-    -- no block is left
-    pub below_blocks : (blocks : ℕ) → blocks ≤ k → k ≤ blocks → Below s limit 0 (record { at = 128 * blocks; count = n })
-    below_blocks blocks h l = let e : blocks ≡ k = omega arith in rw e g
-
 pub passes_lead : (s : List ℕ) (p : Needle) (from : ℕ) (r : Passed) → Below s p.lead from r → Passes s p from (record { at = r.at + 0; count = r.count })
 passes_lead s p from r g = let e : r.at + 0 ≡ r.at = omega arith in rw e (below-passes s p.lead from r g p (omega arith))
 
@@ -334,9 +289,6 @@ module _ (s : List ℕ) (p : Needle) (from : ℕ) where
     pub skips_begin : (u : Bool) → IsNeedle p → u ≡ may_begin_at s p at → u ≡ true → Skips s p from (record { at = at; count = k })
     skips_begin u i o y = record { passes = g; boundary = λ h. begins_lead p _ _ _ _ i.leads (sym o ∙ y) }
 
-    pub skips_past : length s ≤ at → at ≤ length s → Skips s p from (record { at = length s; count = k })
-    skips_past h l = let e : length s ≡ at = omega arith in rw e (record { passes = g; boundary = λ l. absurd (omega arith) })
-
   -- 64 bytes after `base`, k times
   module _ (base k n : ℕ) (g : Passes s p from (record { at = base + 64 * k; count = n })) where
     module _ (r : ℕ) (e : r ≡ length s - base - 3) (l : k < r / 64) (left : ℕ) (o : OfHit s p (base + 64 * k) left) where
@@ -355,9 +307,6 @@ module _ (s : List ℕ) (p : Needle) (from : ℕ) where
 
         pub passes_hit : (z : ℕ) → z ≡ m → Passes s p from (record { at = base + 64 * k + z; count = n + v })
         passes_hit z f = rw f (passes-more (base + 64 * k) n g m v (omega arith) (x ∙ w) (λ j l. o.clear j (omega arith)))
-
-    pub passes_all : (hits : ℕ) → hits ≤ k → k ≤ hits → Passes s p from (record { at = base + 64 * hits; count = n })
-    passes_all hits h l = let e : hits ≡ k = omega arith in rw e g
 
 pub passes_start : (s : List ℕ) (p : Needle) → Passes s p 0 (record { at = 0; count = 0 })
 passes_start s p = passes_none s p 0 (omega arith)
@@ -436,9 +385,6 @@ module _ (s : List ℕ) (at : ℕ) where
           boundary = λ l. lead-after g.boundary l;
         }
 
-    pub after_fits : (limit : ℕ) → SkipsBelow (bytes_from s at) limit 0 r → Fits w64 (length s) → Fits w64 (at + r.at)
-    after_fits limit g f = let l = to-end g.below.within in omega arith
-
 -- one after the other from a position on
 module _ (s : List ℕ) (p : Needle) (at : ℕ) (g r : Passed) (h : at ≤ length s) (a : Passes (bytes_from s at) p 0 g) (b : Skips (bytes_from (bytes_from s at) g.at) p 0 r) where
   join : Skips (bytes_from s at) p 0 (record { at = g.at + r.at; count = g.count + r.count })
@@ -446,12 +392,6 @@ module _ (s : List ℕ) (p : Needle) (at : ℕ) (g r : Passed) (h : at ≤ lengt
 
   pub both : Skips s p at (record { at = at + (g.at + r.at); count = g.count + r.count })
   both = skips_after s at h (record { at = g.at + r.at; count = g.count + r.count }) p join
-
-  pub to_fits : Fits w64 (length s) → Fits w64 (at + (g.at + r.at))
-  to_fits f = let w = both.passes.within in omega arith
-
-  pub on_fits : Fits w64 (length s) → Fits w64 (g.at + r.at)
-  on_fits f = let w = both.passes.within in omega arith
 
   pub count_fits : Fits w64 (length s) → Fits w64 (g.count + r.count)
   count_fits f = let w = both.passes.within in omega (arith, leads_le s at (at + (g.at + r.at) - at), both.passes.counted)

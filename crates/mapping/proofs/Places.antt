@@ -15,7 +15,7 @@ use Rattle.characters.specs.declared.Cursor.{Cursor}
 use Rattle.characters.specs.Utf8.{is_surrogate, chars_from, well_formed_from}
 use Rattle.mapping.specs.declared.Entry.{Entry}
 use Rattle.mapping.specs.declared.Entry.TheVariants as entry
-use Rattle.std.specs.Prelude.{Option, Some, None, is_some}
+use Rattle.std.specs.Prelude.{Option, Some, None}
 use Rattle.mapping.specs.declared.Glyph.{Glyph}
 use Rattle.mapping.specs.declared.Start.{Start}
 use Rattle.mapping.specs.declared.search.Passed.{Passed}
@@ -198,6 +198,3 @@ glyph_placed m replacement ch f g h e q = q ∙ ap (glyph_at replacement) (e ∙
         let l = h.spelled in
         ap Some (omega arith)
     by None p = refl
-
-pub glyph_found : (replacement : ℕ) (f : Option ℕ) (g : Glyph) → g ≡ glyph_at replacement f → g.listed ≡ is_some f
-glyph_found replacement f g e = ap (λ (h : Glyph). h.listed) e

@@ -144,9 +144,6 @@ module _ (s : List ℕ) (ch from : ℕ) (r : Passed) (g : Skips s (needle_of ch)
       → (most k : ℕ) (f : Option ℕ) → at_most most (place_from k ch (spelled (chars_from s from))) ≡ f → None ≡ f
   skip_stopped e t most k f h = find_stopped s r.at e t most _ ch f (rw (rest.placed k) at h)
 
-pub resumes_here : (s : List ℕ) (ch from k : ℕ) → ListFrom s from → k ≤ 65_536 → Resumes s ch from k (record { at = from; count = k })
-resumes_here s ch from k l h = record { list = l; small = h; placed = refl }
-
 -- after what was passed over, counted from as many as that has
 pub resumes : (s : List ℕ) (ch from limit : ℕ) (r : Passed) → SkipsBelow s limit from r → ListFrom s from → (lead x y : ℕ) → lead ≡ (needle_of ch).lead
     → x ≡ (lead + 255) % 256 → y ≡ (limit + 255) % 256 → from < r.at → y ≤ x → (k m j : ℕ) → m ≡ min r.count 65_536

@@ -1,5 +1,5 @@
 -- The first entry, and bytes after it that are passed over, or none. Assumes nothing.
-use Rattle.mapping.proofs.Blocks.{skips_below_none, after_fits}
+use Rattle.mapping.proofs.Blocks.{skips_below_none}
 use Rattle.mapping.proofs.Places.{after-within, start_made, start_after}
 use Rattle.mapping.proofs.start_of.Goals as goal
 
@@ -15,8 +15,6 @@ returns-then-rest-lt128 c = search (start_made, skips_below_none, after-within)
 pub returns-in_default : goal.returns-in_default
 returns-in_default c = search (start_made, skips_below_none, after-within)
 
-pub overflow_add-passed : goal.overflow_add-passed
-overflow_add-passed c = search (after_fits, after-within)
 
 pub returns : goal.returns
 returns c = search start_after

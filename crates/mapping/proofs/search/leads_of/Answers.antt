@@ -1,5 +1,5 @@
 -- The invariant: the lead bytes among those passed that stand before n are counted. Assumes nothing.
-use Rattle.mapping.proofs.Blocks.{counted_start, counted_more, counted-fits, counted-all}
+use Rattle.mapping.proofs.Blocks.{counted_start, counted_more, counted-fits}
 use Rattle.mapping.proofs.search.leads_of.Goals as goal
 
 pub loop-i-init : goal.loop-i-init
@@ -11,5 +11,3 @@ overflow_add-count c = search counted-fits
 pub loop-i-preserved : goal.loop-i-preserved
 loop-i-preserved c = search counted_more
 
-pub returns : goal.returns
-returns c = search counted-all

@@ -1,5 +1,5 @@
 -- The invariant: what was passed over. Assumes nothing.
-use Rattle.mapping.proofs.Blocks.{below_start, block_fits, below_block, below_blocks}
+use Rattle.mapping.proofs.Blocks.{below_start, block_fits, below_block}
 use Rattle.mapping.proofs.search.pass_blocks.Goals as goal
 
 pub loop-k-init : goal.loop-k-init
@@ -11,5 +11,3 @@ overflow_add-count c = search block_fits
 pub loop-k-preserved : goal.loop-k-preserved
 loop-k-preserved c = search below_block
 
-pub returns : goal.returns
-returns c = search below_blocks

@@ -1,6 +1,6 @@
 -- The invariant: the bytes passed are bounded, and their lead bytes are counted. Assumes nothing.
 use native.Mathlib.Omega.{arith}
-use Rattle.mapping.proofs.Blocks.{leads-start, leads_more, leads-fits, bounded_more, block_whole}
+use Rattle.mapping.proofs.Blocks.{leads-start, leads_more, leads-fits, bounded_more}
 use Rattle.mapping.proofs.search.read_block.Goals as goal
 
 pub loop-i-init : goal.loop-i-init
@@ -12,5 +12,3 @@ overflow_add-leads c = search leads-fits
 pub loop-i-preserved : goal.loop-i-preserved
 loop-i-preserved c = (search leads_more, search bounded_more)
 
-pub returns : goal.returns
-returns c = search block_whole

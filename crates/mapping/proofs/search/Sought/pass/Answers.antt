@@ -1,5 +1,5 @@
 -- The invariant: what was passed over. Assumes nothing.
-use Rattle.mapping.proofs.Blocks.{passes_lead, upto_fits, passes_hit, through_fits, passes_through, passes_all}
+use Rattle.mapping.proofs.Blocks.{passes_lead, upto_fits, passes_hit, through_fits, passes_through}
 use Rattle.mapping.proofs.search.Sought.pass.Goals as goal
 
 pub loop-k-init : goal.loop-k-init
@@ -17,5 +17,3 @@ overflow_add-count-in-loop-k c = search through_fits
 pub loop-k-preserved : goal.loop-k-preserved
 loop-k-preserved c = search passes_through
 
-pub returns : goal.returns
-returns c = search passes_all

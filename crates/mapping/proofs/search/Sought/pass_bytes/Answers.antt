@@ -1,5 +1,5 @@
 -- The invariant: what was passed over. Assumes nothing.
-use Rattle.mapping.proofs.Blocks.{passes_start, byte_fits, passes_byte, skips_begin, skips_past}
+use Rattle.mapping.proofs.Blocks.{passes_start, byte_fits, passes_byte, skips_begin}
 use Rattle.mapping.proofs.search.Sought.pass_bytes.Goals as goal
 
 pub loop-at-init : goal.loop-at-init
@@ -14,5 +14,3 @@ overflow_add-count c = search byte_fits
 pub loop-at-preserved : goal.loop-at-preserved
 loop-at-preserved c = search passes_byte
 
-pub returns : goal.returns
-returns c = search skips_past
