@@ -111,7 +111,8 @@ fn after_entry(entry: Entry) -> usize
 }
 
 // The first position of a character in the list from a cursor on, counted from `count`, or 65,536 for every position from there on.
-// The loop has a cursor and no iterator, since each entry says where the next begins.
+// The loop has a cursor and no iterator, since each entry says where the next begins; so each turn would make a type anew that held
+// `ListFrom`, and the fact stays a clause.
 fn find(mapping: &[u8], from: Cursor, count: u64, ch: u32) -> Option<u32>
     requires list_from { ListFrom mapping.now from.at }
     requires count_bound { count ≤ 65_536 }
@@ -203,6 +204,7 @@ fn glyph_at(place: Option<u32>, replacement: u32) -> Glyph
 
 // The glyph of a character by a mapping that the check accepts: its first position, else the replacement. Where the search starts is
 // given, so that a character of the first range is found without a step over the bytes.
+// `WithinLimit` is a clause and no type: a font of the crate line holds the fact beside the bytes of its atlas, and lends its mapping.
 pub fn glyph_with(mapping: &[u8], start: Start, replacement: u32, ch: u32) -> Glyph
     requires within_limit { WithinLimit mapping.now }
     requires start_of { StartOf mapping.now start }

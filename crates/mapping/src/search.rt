@@ -18,7 +18,7 @@ pub struct Needle {
     pub end: usize,
 }
 
-// A needle that a character has.
+// The bytes by which some character is looked for: the functions that search with them need the facts of `IsNeedle`.
 #[derive(Clone, Copy)]
 struct Sought {
     needle: Needle,
@@ -191,7 +191,7 @@ fn before_lead(bytes: &[u8]) -> usize
         .unwrap_or(bytes.len())
 }
 
-// The same, and on to the next lead byte.
+// Passes over the same blocks, and on to the next lead byte.
 pub fn pass_below(bytes: &[u8], lead: u8) -> Passed
     requires { 0xC0 ≤ lead }
     ensures { SkipsBelow bytes.now lead 0 result }
@@ -297,7 +297,7 @@ fn is_near(rest: &[u8]) -> bool {
     let [a, b, c, d, ..] = rest else {
         return true;
     };
-    (*a == 0) | ((*b == 0) | ((*c == 0) | (*d == 0)))
+    *a == 0 || *b == 0 || *c == 0 || *d == 0
 }
 
 // Passes over singly listed characters other than ch.

@@ -2,7 +2,5 @@
 use Rattle.mapping.proofs.Skipped.{resumes}
 use Rattle.mapping.proofs.resume.Goals as goal
 
-
-
 pub returns : goal.returns
 returns c = search resumes

@@ -15,6 +15,5 @@ returns-then-rest-lt128 c = search (start_made, skips_below_none, after-within)
 pub returns-in_default : goal.returns-in_default
 returns-in_default c = search (start_made, skips_below_none, after-within)
 
-
 pub returns : goal.returns
 returns c = search start_after

@@ -10,4 +10,3 @@ overflow_add-count c = search counted-fits
 
 pub loop-i-preserved : goal.loop-i-preserved
 loop-i-preserved c = search counted_more
-

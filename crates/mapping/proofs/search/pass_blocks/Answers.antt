@@ -10,4 +10,3 @@ overflow_add-count c = search block_fits
 
 pub loop-k-preserved : goal.loop-k-preserved
 loop-k-preserved c = search below_block
-

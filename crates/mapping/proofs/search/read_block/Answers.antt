@@ -11,4 +11,3 @@ overflow_add-leads c = search leads-fits
 
 pub loop-i-preserved : goal.loop-i-preserved
 loop-i-preserved c = (search leads_more, search bounded_more)
-

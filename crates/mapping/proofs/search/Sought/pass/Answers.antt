@@ -16,4 +16,3 @@ overflow_add-count-in-loop-k c = search through_fits
 
 pub loop-k-preserved : goal.loop-k-preserved
 loop-k-preserved c = search passes_through
-

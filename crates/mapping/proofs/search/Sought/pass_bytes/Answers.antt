@@ -13,4 +13,3 @@ overflow_add-count c = search byte_fits
 
 pub loop-at-preserved : goal.loop-at-preserved
 loop-at-preserved c = search passes_byte
-
