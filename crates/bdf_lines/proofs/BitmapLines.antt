@@ -12,16 +12,12 @@ use lib.Seq.{get_or-drop, get_or-take, drop-cons, drop-drop, take-take, length-t
 use lib.Dec.{leb, eqb}
 use lib.Pow.{pow-add, shr_lt}
 use borrow.Author.Tests.{leb-true, eqb-true, eq-eqb, ne_eqb}
+use Rattle.std.specs.Prelude.{Option, Some, None}
 use Rattle.characters.specs.Lines.{line_length, without_return}
 use Rattle.characters.proofs.Feeds.{line_part, return_absent, return_dropped}
-use Rattle.bdf_lines.specs.declared.values.Row.{Row}
-use Rattle.bdf_lines.specs.declared.values.Row.TheVariants as row
-use Rattle.bdf_lines.specs.declared.words.Rest.{Rest}
-use Rattle.bdf_lines.specs.declared.words.Rest.TheVariants as rest
-use Rattle.bdf_lines.specs.declared.forms.RowAt.{RowAt}
-use Rattle.bdf_lines.specs.declared.forms.RowAt.TheVariants as row_at
 use Rattle.bdf_lines.specs.Words.{is_digit, is_hex, hex_value, are_hex, hex_from, is_row, row_bits, row_of}
 use Rattle.bdf_lines.specs.Forms.{line_at, IsFeedAt, FeedFound, RowFound}
+use Rattle.bdf_lines.proofs.Stands.{not_some, at_is, found_is}
 
 -- ---- the bits of a bitmap line
 
@@ -60,30 +56,14 @@ row_bits_lem width l e =
     let q : 4 * length l ≡ width + (n - width) = omega arith in
     shr_lt width (n - width) (rw (← q) (omega arith))
 
-is_row_bits : Row → Bool
-is_row_bits (row.Bits v) = true
-is_row_bits row.Wrong = false
-
-pub row_apart : (v : ℕ) → row.Bits v ≡ row.Wrong → ⊥
-unfolding is_row_bits
-row_apart v e = true≢false (ap is_row_bits e)
-
-row_value : Row → ℕ
-row_value (row.Bits v) = v
-row_value row.Wrong = 0
-
-row_injective : (v u : ℕ) → row.Bits v ≡ row.Bits u → v ≡ u
-unfolding row_value
-row_injective v u e = ap row_value e
-
 -- the bits of a bitmap line are small
-pub bits_small : (width bits : ℕ) (l : List ℕ) → row_of width l ≡ row.Bits bits → bits < 2 ^ width
+pub bits_small : (width bits : ℕ) (l : List ℕ) → row_of width l ≡ Some bits → bits < 2 ^ width
 unfolding row_of
 bits_small width bits l e = go (is_row width l) refl e
   where
-    go : (t : Bool) → is_row width l ≡ t → cond t (row.Bits (row_bits width l)) row.Wrong ≡ row.Bits bits → bits < 2 ^ width
-    go true i q = rw (← row_injective (row_bits width l) bits q) (row_bits_lem width l i)
-    go false i q = absurd (row_apart bits (sym q))
+    go : (t : Bool) → is_row width l ≡ t → cond t (Some (row_bits width l)) None ≡ Some bits → bits < 2 ^ width
+    go true i q = rw (← at_is (row_bits width l) bits q) (row_bits_lem width l i)
+    go false i q = absurd (not_some bits q)
 
 -- ---- a bitmap line, found by its digits
 
@@ -126,53 +106,30 @@ module _ (s : List ℕ) (i : ℕ) (h : i < length s) where
 
 -- ---- `feed_at`
 
-is_at : Rest → Bool
-is_at (rest.At k) = true
-is_at rest.Wrong = false
-
-place_of : Rest → ℕ
-place_of (rest.At k) = k
-place_of rest.Wrong = 0
-
 module _ (file : List ℕ) (at : ℕ) where
-  pub feed_none : FeedFound file at rest.Wrong
-  unfolding is_at
-  feed_none = record { found = λ k e. absurd (true≢false (sym (ap is_at e))) }
+  pub feed_none : FeedFound file at None
+  feed_none = record { found = λ k e. absurd (not_some k e) }
 
-  feed-is : (end : ℕ) → IsFeedAt file at end → FeedFound file at (rest.At end)
-  unfolding place_of
-  feed-is end f = record { found = λ k e. rw (← ap place_of e) f }
+  feed-is : (end : ℕ) → IsFeedAt file at end → FeedFound file at (Some end)
+  feed-is end f = record { found = λ k e. rw (← at_is end k e) f }
 
-  pub feed_here : at < length file → get_or file at 0 ≡ 0x0A → FeedFound file at (rest.At at)
+  pub feed_here : at < length file → get_or file at 0 ≡ 0x0A → FeedFound file at (Some at)
   feed_here h e = feed-is at (record { inside = h; feed = e; place = inl refl })
 
-  pub feed_next : get_or file at 0 ≡ 0x0D → at + 1 < length file → get_or file (at + 1) 0 ≡ 0x0A → FeedFound file at (rest.At (at + 1))
+  pub feed_next : get_or file at 0 ≡ 0x0D → at + 1 < length file → get_or file (at + 1) 0 ≡ 0x0A → FeedFound file at (Some (at + 1))
   feed_next r h e = feed-is (at + 1) (record { inside = h; feed = e; place = inr (refl, r) })
 
 -- ---- `row_at`
 
-is_bits : RowAt → Bool
-is_bits (row_at.Bits v e) = true
-is_bits row_at.Wrong = false
-
-bits_of : RowAt → ℕ
-bits_of (row_at.Bits v e) = v
-bits_of row_at.Wrong = 0
-
-end_of : RowAt → ℕ
-end_of (row_at.Bits v e) = e
-end_of row_at.Wrong = 0
-
 module _ (file : List ℕ) (at width : ℕ) where
-  pub row_none : RowFound file at width row_at.Wrong
-  unfolding is_bits
-  row_none = record { found = λ bits stop e. absurd (true≢false (sym (ap is_bits e))) }
+  pub row_none : RowFound file at width None
+  row_none = record { found = λ bits stop e. absurd (not_some (bits, stop) e) }
 
   abbrev to : ℕ
   to = at + 2 * ((width + 7) / 8)
 
-  module _ (bits end : ℕ) (x : Row) (y : Rest) (more : 2 * ((width + 7) / 8) < length file - at) (g : FeedFound file to y) (u : y ≡ rest.At end)
-      (q : x ≡ row_of width (take (to - at) (drop at file))) (t : x ≡ row.Bits bits) where
+  module _ (bits end : ℕ) (x : Option ℕ) (y : Option ℕ) (more : 2 * ((width + 7) / 8) < length file - at) (g : FeedFound file to y) (u : y ≡ Some end)
+      (q : x ≡ row_of width (take (to - at) (drop at file))) (t : x ≡ Some bits) where
     digits : List ℕ
     digits = take (to - at) (drop at file)
 
@@ -180,9 +137,9 @@ module _ (file : List ℕ) (at width : ℕ) where
     unfolding digits row_of
     is-row = go (is_row width digits) (sym t ∙ q)
       where
-        go : (u : Bool) → row.Bits bits ≡ cond u (row.Bits (row_bits width digits)) row.Wrong → u ≡ true
+        go : (u : Bool) → Some bits ≡ cond u (Some (row_bits width digits)) None → u ≡ true
         go true e = refl
-        go false e = absurd (row_apart bits e)
+        go false e = absurd (not_some bits (sym e))
 
     are-hex : are_hex digits ≡ true
     unfolding is_row
@@ -216,10 +173,10 @@ module _ (file : List ℕ) (at width : ℕ) where
             let m : at + (to - at) ≡ to = omega arith in
             rw n (return-cut (drop at file) (to - at) (rw length-drop (omega arith)) (get_or-drop at file (to - at) 0 ∙ rw m r))
 
-    pub row_found : RowFound file at width (row_at.Bits bits end)
-    unfolding digits bits_of end_of
+    pub row_found : RowFound file at width (Some (bits, end))
+    unfolding digits
     row_found = record {
-      found = λ v e p. rw (← ap bits_of p, ← ap end_of p) (record {
+      found = λ v e p. rw (← (found_is bits v end e p).0, ← (found_is bits v end e p).1) (record {
         ends = line-ends;
         more = feed.inside;
         bitmap = ap (row_of width) line-digits ∙ sym q ∙ t;

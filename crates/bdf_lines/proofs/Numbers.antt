@@ -5,18 +5,17 @@ use native.Mathlib.Decide.{dec_lt}
 use native.Mathlib.Numerals.{add-one}
 use native.Mathlib.Nat.{pow-suc, pow-le-pow_right, mod-eq_of_lt}
 use mathlib.Core.Path.{◌≡◌, refl, sym, ap, ◌∙◌}
-use mathlib.Core.Bool.{Bool, true, false, not, cond, ◌&&◌, and-false}
+use mathlib.Core.Bool.{Bool, true, false, not, cond, ◌&&◌, and-true, and-false, true≢false}
 use mathlib.Core.Logic.{◌⊎◌, inl, inr}
 use mathlib.Core.List.{List, [], ◌∷◌}
-use lib.ListN.{length, drop, get_or, drop_of_length-le}
+use lib.ListN.{length, take, drop, get_or, drop_of_length-le}
 use lib.Seq.{drop-cons}
-use lib.Dec.{leb, ltb}
+use lib.Dec.{eqb, leb, ltb}
+use lib.Pointwise.{pointwise}
 use lib.Bits.{bit_or, or_add_and, and_le_l, and_le_r, or_lt, or_shifted}
-use borrow.Author.Tests.{leb-true, leb-false, lt-leb, eq-eqb, ne_eqb, not-true, not-false}
-use Rattle.bdf_lines.specs.declared.values.Read.{Read}
-use Rattle.bdf_lines.specs.declared.values.Read.TheVariants.{Value, Wrong}
-use Rattle.bdf_lines.specs.declared.values.Row.{Row}
-use Rattle.bdf_lines.specs.declared.values.Row.TheVariants as row
+use borrow.Author.Tests.{eqb-true, leb-true, leb-false, lt-leb, eq-eqb, ne_eqb, not-true, not-false}
+use Rattle.std.specs.Prelude.{Option, Some, None}
+use Rattle.bdf_lines.specs.declared.values.Number.{Number}
 use Rattle.bdf_lines.specs.Words.{is_digit, are_digits, decimal_from, most, signed, digits_of, number_of, is_hex, hex_value, are_hex, hex_from, is_row, row_bits, row_of}
 use Rattle.bdf_lines.specs.Positions.{hex_of}
 use Rattle.bdf_lines.specs.Table.{digit_value, IsTable}
@@ -61,8 +60,8 @@ appended_fits v b w e h q = omega (arith, digit_high b e)
 -- ---- `digits`: a turn at position i of the word
 
 -- what the digits from some digit on say, after the digits of v
-pub digits_from : Bool → ℕ → List ℕ → Read
-digits_from minus v s = cond (are_digits s) (Value (signed minus (min (decimal_from v s) most))) Wrong
+pub digits_from : Bool → ℕ → List ℕ → Option Number
+digits_from minus v s = cond (are_digits s) (Some (signed minus (min (decimal_from v s) most))) None
 
 -- a number that is clipped on the way is clipped
 pub clipped : (s : List ℕ) (v : ℕ) → min (decimal_from (min v most) s) most ≡ min (decimal_from v s) most
@@ -72,45 +71,50 @@ clipped (b ∷ s) v =
     let same : min (min v most * 10 + (b - 0x30)) most ≡ min (v * 10 + (b - 0x30)) most = omega arith in
     sym (clipped s (min v most * 10 + (b - 0x30))) ∙ ap (λ (n : ℕ). min (decimal_from n s) most) same ∙ clipped s (v * 10 + (b - 0x30))
 
-module _ (word : List ℕ) (from : ℕ) (minus : Bool) where
-  pub digits_none : length word ≤ from → Wrong ≡ digits_of minus (drop from word)
-  unfolding digits_of
-  digits_none h = rw (drop_of_length-le word h)
+module _ (word : List ℕ) (minus : Bool) where
+  -- t is what `is_empty` says
+  module _ (t : Bool) (d : t ≡ eqb (length word) 0) where
+    pub digits_none : t ≡ true → None ≡ digits_of minus word
+    unfolding digits_of
+    digits_none e = go word (sym d ∙ e)
+      where
+        go : (s : List ℕ) → eqb (length s) 0 ≡ true → None ≡ digits_of minus s
+        go [] f = refl
+        go (b ∷ s) f = absurd (omega (arith, eqb-true (length (b ∷ s)) 0 f))
 
-  pub digits-start : from < length word → digits_from minus 0 (drop from word) ≡ digits_of minus (drop from word)
-  unfolding digits_of digits_from
-  digits-start h = rw (drop-cons word from 0 h)
+    pub digits-start : t ≡ false → digits_from minus 0 word ≡ digits_of minus word
+    unfolding digits_of digits_from
+    digits-start e = go word (sym d ∙ e)
+      where
+        go : (s : List ℕ) → eqb (length s) 0 ≡ false → digits_from minus 0 s ≡ digits_of minus s
+        go [] f = absurd (true≢false f)
+        go (b ∷ s) f = refl
 
-  module _ (i v : ℕ) (inv : digits_from minus v (drop i word) ≡ digits_of minus (drop from word)) where
-    pub digits_wrong : i < length word → is_digit (get_or word i 0) ≡ false → Wrong ≡ digits_of minus (drop from word)
+  module _ (i v : ℕ) (inv : digits_from minus v (drop i word) ≡ digits_of minus word) where
+    pub digits_wrong : i < length word → is_digit (get_or word i 0) ≡ false → None ≡ digits_of minus word
     unfolding digits_from are_digits
     digits_wrong h e = rw (drop-cons word i 0 h, e) at inv
 
     pub digits_again : (w : ℕ) → i < length word → is_digit (get_or word i 0) ≡ true → w ≡ min (v * 10 + (get_or word i 0 - 0x30)) most
-        → digits_from minus w (drop (i + 1) word) ≡ digits_of minus (drop from word)
+        → digits_from minus w (drop (i + 1) word) ≡ digits_of minus word
     unfolding digits_from are_digits decimal_from
     digits_again w h e q = rw (q, add-one i, clipped (drop (suc i) word) (v * 10 + (get_or word i 0 - 0x30))) (rw (drop-cons word i 0 h, e) at inv)
 
-    pub digits_end : length word ≤ i → v ≤ most → Value (record { negative = minus && ltb 0 v; size = v }) ≡ digits_of minus (drop from word)
+    pub digits_end : length word ≤ i → v ≤ most → Some (record { negative = minus && ltb 0 v; size = v }) ≡ digits_of minus word
     unfolding digits_from are_digits decimal_from signed
     digits_end h m = let e : min v most ≡ v = omega arith in rw (drop_of_length-le word h, e) at inv
 
 -- ---- `number_of`: a word that is a number
 
-pub number_none : (word : List ℕ) → length word ≡ 0 → Wrong ≡ number_of word
+pub number_minus : (word size : List ℕ) (r : Option Number) → pointwise eqb (take 1 word) (0x2D ∷ []) ≡ true → size ≡ drop 1 word → r ≡ digits_of true size → r ≡ number_of word
 unfolding number_of
-number_none [] h = refl
-number_none (b ∷ s) h = absurd (omega arith)
+number_minus [] size r h e q = absurd (true≢false (sym h))
+number_minus (b ∷ s) size r h e q = rw (eqb-true b 0x2D (both_first (eqb b 0x2D) true h)) (rw e at q)
 
-pub number_minus : (word : List ℕ) (r : Read) → (length word ≡ 0 → ⊥) → get_or word 0 0 ≡ 0x2D → r ≡ digits_of true (drop 1 word) → r ≡ number_of word
-unfolding number_of
-number_minus [] r h e q = absurd (h refl)
-number_minus (b ∷ s) r h e q = rw (eq-eqb b 0x2D e) q
-
-pub number_plain : (word : List ℕ) (r : Read) → (length word ≡ 0 → ⊥) → (get_or word 0 0 ≡ 0x2D → ⊥) → r ≡ digits_of false word → r ≡ number_of word
-unfolding number_of
-number_plain [] r h e q = absurd (h refl)
-number_plain (b ∷ s) r h e q = rw (ne_eqb b 0x2D e) q
+pub number_plain : (word : List ℕ) (r : Option Number) → pointwise eqb (take 1 word) (0x2D ∷ []) ≡ false → r ≡ digits_of false word → r ≡ number_of word
+unfolding number_of digits_of
+number_plain [] r h q = q
+number_plain (b ∷ s) r h q = rw (sym (and-true (eqb b 0x2D)) ∙ h) q
 
 -- ---- a hexadecimal digit
 
@@ -157,25 +161,25 @@ or_right a b = omega (arith, or_add_and a b, and_le_l a b)
 -- ---- `hexadecimal`: a turn at digit i
 
 -- what the digits from some digit on say, after the digits of v
-pub hex_of_from : ℕ → List ℕ → Row
-hex_of_from v s = cond (are_hex s) (row.Bits (hex_from v s)) row.Wrong
+pub hex_of_from : ℕ → List ℕ → Option ℕ
+hex_of_from v s = cond (are_hex s) (Some (hex_from v s)) None
 
 -- before digit i, with the number v of those before it, and `all` of their values together
 pub record HexInv (digits : List ℕ) (v all i : ℕ) : Type 0 where
   pub small : all < 16 → v < 16 ^ i
   pub same : all < 16 → hex_of_from v (drop i digits) ≡ hex_of digits
-  pub wrong : 16 ≤ all → row.Wrong ≡ hex_of digits
+  pub wrong : 16 ≤ all → None ≡ hex_of digits
 
 pub hex_start : (digits : List ℕ) → HexInv digits 0 0 0
 unfolding hex_of_from hex_of
 hex_start digits = record { small = λ h. omega arith; same = λ h. refl; wrong = λ h. absurd (omega arith) }
 
 module _ (digits : List ℕ) (v all i : ℕ) (inv : HexInv digits v all i) where
-  pub hex_end : length digits ≤ i → all < 16 → row.Bits v ≡ hex_of digits
+  pub hex_end : length digits ≤ i → all < 16 → Some v ≡ hex_of digits
   unfolding hex_of_from are_hex hex_from
   hex_end h l = rw (drop_of_length-le digits h) at (inv.same l)
 
-  pub hex_wrong : 16 ≤ all → row.Wrong ≡ hex_of digits
+  pub hex_wrong : 16 ≤ all → None ≡ hex_of digits
   hex_wrong h = inv.wrong h
 
   -- where all of them are digits, v has i digits of at most 16, and no bit of it is dropped
@@ -208,21 +212,21 @@ module _ (digits : List ℕ) (v all i : ℕ) (inv : HexInv digits v all i) where
         rw (e ∙ value-is b x, add-one i) (rw (drop-cons digits i 0 within, x) at (inv.same few-before))
 
   -- one is wrong: it was before, or it is this one
-  still-wrong : i < length digits → 16 ≤ bit_or all (digit_value (get_or digits i 0)) → row.Wrong ≡ hex_of digits
+  still-wrong : i < length digits → 16 ≤ bit_or all (digit_value (get_or digits i 0)) → None ≡ hex_of digits
   unfolding hex_of_from are_hex
   still-wrong within h = go (lt_or_le all 16) (is_hex (get_or digits i 0)) refl
     where
-      go : (all < 16) ⊎ (16 ≤ all) → (t : Bool) → is_hex (get_or digits i 0) ≡ t → row.Wrong ≡ hex_of digits
+      go : (all < 16) ⊎ (16 ≤ all) → (t : Bool) → is_hex (get_or digits i 0) ≡ t → None ≡ hex_of digits
       go (inr l) t e = inv.wrong l
       go (inl l) true e =
           let d : digit_value (get_or digits i 0) < 16 = rw (value-is (get_or digits i 0) e) (hex_small (get_or digits i 0) e) in
           absurd (omega (arith, or_lt 4 all (digit_value (get_or digits i 0)) l d))
       go (inl l) false e = rw (drop-cons digits i 0 within, e) at (inv.same l)
 
-  pub hex_again : (table : List ℕ) (k w : ℕ) → IsTable table → length digits ≤ 16 → i < length digits → k ≡ get_or digits i 0 → k < 256 → w ≡ get_or table k 0
+  pub hex_again : (table : List ℕ) (k w : ℕ) → IsTable table → length digits ≤ 16 → i < length digits → k ≡ get_or digits i 0 → get_or digits i 0 < 256 → w ≡ get_or table k 0
       → HexInv digits (bit_or (v * 16 % 2 ^ 64) w) (bit_or all (get_or table k 0)) (i + 1)
   hex_again table k w t short within e l q =
-      let d : get_or table k 0 ≡ digit_value (get_or digits i 0) = t.entry k l ∙ ap digit_value e in
+      let d : get_or table k 0 ≡ digit_value (get_or digits i 0) = t.entry k (rw e l) ∙ ap digit_value e in
       record {
         small = λ h. rw (q, joined short within (get_or table k 0) h) (joined_small short within (get_or table k 0) h);
         same = λ h. rw (q, joined short within (get_or table k 0) h) (joined_same short within (get_or table k 0) h d);
@@ -230,43 +234,43 @@ module _ (digits : List ℕ) (v all i : ℕ) (inv : HexInv digits v all i) where
       }
 
 -- what the answer of `hexadecimal` says of the digits
-module _ (s : List ℕ) {r : Row} (e : r ≡ hex_of s) where
-  pub hex_of_wrong : r ≡ row.Wrong → are_hex s ≡ false
+module _ (s : List ℕ) {r : Option ℕ} (e : r ≡ hex_of s) where
+  pub hex_of_wrong : r ≡ None → are_hex s ≡ false
   unfolding hex_of
   hex_of_wrong q = go (are_hex s) (sym e ∙ q)
     where
-      go : (t : Bool) → cond t (row.Bits (hex_from 0 s)) row.Wrong ≡ row.Wrong → t ≡ false
+      go : (t : Bool) → cond t (Some (hex_from 0 s)) None ≡ None → t ≡ false
       go true p = cc
       go false p = refl
 
-  module _ {v : ℕ} (q : r ≡ row.Bits v) where
+  module _ {v : ℕ} (q : r ≡ Some v) where
     pub hex_of_bits : are_hex s ≡ true
     unfolding hex_of
     hex_of_bits = go (are_hex s) (sym e ∙ q)
       where
-        go : (t : Bool) → cond t (row.Bits (hex_from 0 s)) row.Wrong ≡ row.Bits v → t ≡ true
+        go : (t : Bool) → cond t (Some (hex_from 0 s)) None ≡ Some v → t ≡ true
         go true p = refl
         go false p = cc
 
     hex-of-value : hex_from 0 s ≡ v
     unfolding hex_of
-    hex-of-value = let p : row.Bits (hex_from 0 s) ≡ row.Bits v = rw hex_of_bits at (sym e ∙ q) in cc
+    hex-of-value = let p : Some (hex_from 0 s) ≡ Some v = rw hex_of_bits at (sym e ∙ q) in cc
 
 -- ---- `row_of`: a bitmap line
 
 module _ (width : ℕ) (line : List ℕ) where
-  pub row_length : (length line ≡ 2 * ((width + 7) / 8) → ⊥) → row.Wrong ≡ row_of width line
+  pub row_length : (length line ≡ 2 * ((width + 7) / 8) → ⊥) → None ≡ row_of width line
   unfolding row_of is_row
   row_length n = rw (ne_eqb (length line) (2 * ((width + 7) / 8)) n)
 
-  module _ (h : length line ≡ 2 * ((width + 7) / 8)) (r : Row) (e : r ≡ hex_of line) where
-    row_is : row_of width line ≡ cond (are_hex line) (row.Bits (row_bits width line)) row.Wrong
+  module _ (h : length line ≡ 2 * ((width + 7) / 8)) (r : Option ℕ) (e : r ≡ hex_of line) where
+    row_is : row_of width line ≡ cond (are_hex line) (Some (row_bits width line)) None
     unfolding row_of is_row
     row_is = rw (eq-eqb (length line) (2 * ((width + 7) / 8)) h)
 
-    pub row_wrong : r ≡ row.Wrong → row.Wrong ≡ row_of width line
+    pub row_wrong : r ≡ None → None ≡ row_of width line
     row_wrong q = rw (row_is, hex_of_wrong line e q)
 
-    pub row_bits_lem : (v : ℕ) → r ≡ row.Bits v → row.Bits (v / 2 ^ (8 * ((width + 7) / 8) - width)) ≡ row_of width line
+    pub row_bits_lem : (v : ℕ) → r ≡ Some v → Some (v / 2 ^ (8 * ((width + 7) / 8) - width)) ≡ row_of width line
     unfolding row_bits
     row_bits_lem v q = rw (row_is, hex_of_bits line e q, hex-of-value line e q)

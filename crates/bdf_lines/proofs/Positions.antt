@@ -1,18 +1,21 @@
 -- The words of a line by their positions: the blanks from a position on, the word after them, and the words after that; and the lines that begin
 -- with a keyword. Assumes nothing.
-use Prim.Native.Nat.{ℕ, suc, ◌+◌, ◌-◌, ◌≤◌, ◌<◌}
+use Prim.Native.Nat.{ℕ, suc, ◌+◌, ◌-◌, ◌≤◌, ◌<◌, max}
 use native.Mathlib.Omega.{arith}
 use native.Mathlib.Numerals.{add-one}
 use mathlib.Core.Path.{◌≡◌, refl, sym, ap, ◌∙◌}
-use mathlib.Core.Bool.{Bool, true, false, cond, not, ◌&&◌, and-false}
+use mathlib.Core.Bool.{Bool, true, false, cond, not, ◌&&◌}
+use mathlib.Core.Logic.{◌⊎◌, inl, inr}
 use mathlib.Core.List.{List, [], ◌∷◌}
 use lib.ListN.{length, take, drop, get_or, drop_of_length-le, length-drop}
 use lib.Seq.{drop-cons, drop-drop}
 use lib.Dec.{eqb, leb}
-use borrow.Author.Tests.{leb-true, leb-false, eq-eqb, ne_eqb, not-true, not-false}
+use borrow.Author.Tests.{leb-true, leb-false, ne_eqb, not-true, not-false}
+use lib.Pointwise.{pointwise}
+use Rattle.std.specs.Option.{is_some}
+use Rattle.std.specs.Prelude.{Option, Some, None}
+use Rattle.bdf_lines.proofs.Numbers.{lt_or_le}
 use Rattle.characters.specs.Lines.{before}
-use Rattle.bdf_lines.specs.declared.words.Rest.{Rest}
-use Rattle.bdf_lines.specs.declared.words.Rest.TheVariants.{At, Wrong}
 use Rattle.bdf_lines.specs.Words.{is_blank, begins_word, words, same, is_alone, is_named, is_pair, is_comment}
 use Rattle.bdf_lines.specs.Positions.{blanks, letters, word_end, is_none, after_if, after_word}
 
@@ -85,6 +88,16 @@ module _ (l : List ℕ) (at : ℕ) where
       go true h = cc (no_word (leb-true (length l) (at + blanks (drop at l)) h))
       go false h = cc (first_word (leb-false (length l) (at + blanks (drop at l)) h))
 
+-- ---- `is_blank`
+
+pub blank_first : (b : ℕ) → b ≡ 0x20 → eqb b 0x20 ≡ is_blank b
+unfolding is_blank
+blank_first b e = rw e
+
+pub blank_second : (b : ℕ) (t : Bool) → (b ≡ 0x20 → ⊥) → t ≡ eqb b 0x09 → t ≡ is_blank b
+unfolding is_blank
+blank_second b t n e = rw (ne_eqb b 0x20 n) e
+
 -- ---- `word_start` and `word_end`: a turn at position i of the line
 
 module _ (l : List ℕ) (i end : ℕ) where
@@ -105,36 +118,35 @@ module _ (l : List ℕ) (i end : ℕ) where
     unfolding letters
     end_later o inv = rw (add-one i) (omega (arith, rw (drop-cons l i 0 h, ← q, o) at inv))
 
-  pub start_past : length l ≤ i → i + blanks (drop i l) ≡ end → i ≡ end
+-- after the last turn
+module _ (l : List ℕ) (i from m : ℕ) (h : length l ≤ i) (last : from ≤ length l → i ≤ length l) (later : m ≡ max from (length l)) where
+  past_last : (f : List ℕ → ℕ) → f [] ≡ 0 → i + f (drop i l) ≡ from + f (drop from l) → m ≡ from + f (drop from l)
+  past_last f z inv = go (lt_or_le (length l) from)
+    where
+      go : (length l < from) ⊎ (from ≤ length l) → m ≡ from + f (drop from l)
+      go (inl s) = rw (drop_of_length-le l {i = from} (omega arith), z) (omega arith)
+      go (inr s) =
+          let e : i + 0 ≡ from + f (drop from l) = rw (drop_of_length-le l h, z) at inv in
+          let j : m ≡ i + 0 = omega arith in
+          j ∙ e
+
+  pub start_past : i + blanks (drop i l) ≡ from + blanks (drop from l) → m ≡ from + blanks (drop from l)
   unfolding blanks
-  start_past h inv = omega (arith, rw (drop_of_length-le l h) at inv)
+  start_past = past_last blanks refl
 
-  pub end_past : length l ≤ i → i + letters (drop i l) ≡ end → i ≡ end
+  pub end_past : i + letters (drop i l) ≡ from + letters (drop from l) → m ≡ from + letters (drop from l)
   unfolding letters
-  end_past h inv = omega (arith, rw (drop_of_length-le l h) at inv)
+  end_past = past_last letters refl
 
--- ---- `same`
+-- ---- the same word
 
-pub other_length : (s t : List ℕ) → (length s ≡ length t → ⊥) → false ≡ same s t
+-- what `==` says of two words
+pub same_word : (s t : List ℕ) → pointwise eqb s t ≡ same s t
 unfolding same
-other_length [] [] h = absurd (h refl)
-other_length [] (b ∷ t) h = refl
-other_length (a ∷ s) [] h = refl
-other_length (a ∷ s) (b ∷ t) h = rw (← other_length s t (λ e. h (ap suc e)), and-false (eqb a b))
-
--- a turn at position i of two words of one length
-module _ (s t : List ℕ) (i : ℕ) (e : length s ≡ length t) (r : Bool) (inv : same (drop i s) (drop i t) ≡ r) where
-  pub differ_here : i < length t → (get_or s i 0 ≡ get_or t i 0 → ⊥) → false ≡ r
-  unfolding same
-  differ_here h d = rw (drop-cons s i 0 (omega arith), drop-cons t i 0 h, ne_eqb (get_or s i 0) (get_or t i 0) d) at inv
-
-  pub same_later : i < length t → get_or s i 0 ≡ get_or t i 0 → same (drop (i + 1) s) (drop (i + 1) t) ≡ r
-  unfolding same
-  same_later h d = rw (add-one i) (rw (drop-cons s i 0 (omega arith), drop-cons t i 0 h, eq-eqb (get_or s i 0) (get_or t i 0) d) at inv)
-
-  pub same_past : length t ≤ i → true ≡ r
-  unfolding same
-  same_past h = rw (drop_of_length-le s {i = i} (omega arith), drop_of_length-le t h) at inv
+same_word [] [] = refl
+same_word [] (b ∷ t) = refl
+same_word (a ∷ s) [] = refl
+same_word (a ∷ s) (b ∷ t) = ap (λ (r : Bool). eqb a b && r) (same_word s t)
 
 -- ---- `is_end` and `after_word`: `from` and `to` are what `word_start` and `word_end` gave
 
@@ -155,7 +167,7 @@ module _ (l : List ℕ) (at from : ℕ) (f : from ≡ at + blanks (drop at l)) w
       go true e = let h = leb-true (length l) from e in rw (no_word l at (omega arith))
       go false e = let h = leb-false (length l) from e in rw (first_word l at (omega arith))
 
-  pub after_none : length l ≤ from → (k : List ℕ) → Wrong ≡ after_word k l at
+  pub after_none : length l ≤ from → (k : List ℕ) → None ≡ after_word k l at
   unfolding after_word
   after_none h k = rw (no_word l at (omega arith))
 
@@ -171,15 +183,15 @@ module _ (l : List ℕ) (at from : ℕ) (f : from ≡ at + blanks (drop at l)) w
     pub word_here : words (drop at l) ≡ take (to - from) (drop from l) ∷ words (drop to l)
     word_here = rw (to_end, f) (first_word l at (omega arith))
 
-    module _ (k : List ℕ) (t : Bool) (e : t ≡ same (take (to - from) (drop from l)) k) where
-      after-here : after_word k l at ≡ cond t (At to) Wrong
+    module _ (k : List ℕ) (t : Bool) (e : t ≡ pointwise eqb (take (to - from) (drop from l)) k) where
+      after-here : after_word k l at ≡ cond t (Some to) None
       unfolding after_word
-      after-here = rw (word_here, ← e, ← to_end)
+      after-here = rw (word_here, ← same_word (take (to - from) (drop from l)) k, ← e, ← to_end)
 
-      pub after_found : t ≡ true → At to ≡ after_word k l at
+      pub after_found : t ≡ true → Some to ≡ after_word k l at
       after_found o = rw (after-here, o)
 
-      pub after_other : t ≡ false → Wrong ≡ after_word k l at
+      pub after_other : t ≡ false → None ≡ after_word k l at
       after_other o = rw (after-here, o)
 
 -- ---- lines that begin with a keyword
@@ -190,29 +202,29 @@ pub record ReadsAfter {A : Type 0} (k : List ℕ) (other : A) (rest g : List (Li
   pub first : (w : List ℕ) (ws : List (List ℕ)) → g (w ∷ ws) ≡ cond (same w k) (rest ws) other
 
 -- x is what `after_word` gave
-module _ {A : Type 0} {k : List ℕ} {other : A} {rest g : List (List ℕ) → A} (r : ReadsAfter k other rest g) (l : List ℕ) (at : ℕ) {x : Rest} (e : x ≡ after_word k l at) where
-  pub first_other : x ≡ Wrong → other ≡ g (words (drop at l))
+module _ {A : Type 0} {k : List ℕ} {other : A} {rest g : List (List ℕ) → A} (r : ReadsAfter k other rest g) (l : List ℕ) (at : ℕ) {x : Option ℕ} (e : x ≡ after_word k l at) where
+  pub first_other : x ≡ None → other ≡ g (words (drop at l))
   unfolding after_word
   first_other q = go (words (drop at l)) (sym e ∙ q)
     where
-      on : (y : A) (t : Bool) → cond t (At (word_end l at)) Wrong ≡ Wrong → other ≡ cond t y other
+      on : (y : A) (t : Bool) → cond t (Some (word_end l at)) None ≡ None → other ≡ cond t y other
       on y true p = cc
       on y false p = refl
 
-      go : (ws : List (List ℕ)) → after_if k ws (word_end l at) ≡ Wrong → other ≡ g ws
+      go : (ws : List (List ℕ)) → after_if k ws (word_end l at) ≡ None → other ≡ g ws
       go [] p = sym r.none
       go (w ∷ ws) p = on (rest ws) (same w k) p ∙ sym (r.first w ws)
 
-  pub first_is : {end : ℕ} → x ≡ At end → rest (words (drop end l)) ≡ g (words (drop at l))
+  pub first_is : {end : ℕ} → x ≡ Some end → rest (words (drop end l)) ≡ g (words (drop at l))
   unfolding after_word
   first_is {end} q = go (words (drop at l)) refl (sym e ∙ q)
     where
-      on : (ws : List (List ℕ)) → ws ≡ words (drop (word_end l at) l) → (t : Bool) → cond t (At (word_end l at)) Wrong ≡ At end
+      on : (ws : List (List ℕ)) → ws ≡ words (drop (word_end l at) l) → (t : Bool) → cond t (Some (word_end l at)) None ≡ Some end
           → rest (words (drop end l)) ≡ cond t (rest ws) other
       on ws d true p = let f : word_end l at ≡ end = cc in rw (d, f)
       on ws d false p = cc
 
-      go : (ws : List (List ℕ)) → words (drop at l) ≡ ws → after_if k ws (word_end l at) ≡ At end → rest (words (drop end l)) ≡ g ws
+      go : (ws : List (List ℕ)) → words (drop at l) ≡ ws → after_if k ws (word_end l at) ≡ Some end → rest (words (drop end l)) ≡ g ws
       go [] d p = cc
       go (w ∷ ws) d p = on ws (next-words l at d) (same w k) p ∙ sym (r.first w ws)
 
@@ -265,17 +277,17 @@ comment_none k l t d o = go (words l) (sym o ∙ d)
     go [] p = refl
     go (w ∷ ws) p = cc
 
-module _ (k l : List ℕ) {x : Rest} (e : x ≡ after_word k l 0) where
-  pub alone_other : x ≡ Wrong → false ≡ is_alone k (words l)
+module _ (k l : List ℕ) {x : Option ℕ} (e : x ≡ after_word k l 0) where
+  pub alone_other : x ≡ None → false ≡ is_alone k (words l)
   alone_other = first_other (alone k) l 0 e
 
-  pub named_other : x ≡ Wrong → false ≡ is_named k (words l)
+  pub named_other : x ≡ None → false ≡ is_named k (words l)
   named_other = first_other (named k) l 0 e
 
-  pub pair_other : x ≡ Wrong → (v : List ℕ) → false ≡ is_pair k v (words l)
+  pub pair_other : x ≡ None → (v : List ℕ) → false ≡ is_pair k v (words l)
   pair_other q v = first_other (pair k v) l 0 e q
 
-  module _ {end : ℕ} (q : x ≡ At end) where
+  module _ {end : ℕ} (q : x ≡ Some end) where
     module _ (t : Bool) (d : t ≡ is_none (words (drop end l))) where
       pub alone_is : t ≡ is_alone k (words l)
       alone_is = d ∙ first_is (alone k) l 0 e q
@@ -283,16 +295,23 @@ module _ (k l : List ℕ) {x : Rest} (e : x ≡ after_word k l 0) where
       pub named_is : not t ≡ is_named k (words l)
       named_is = ap not d ∙ first_is (named k) l 0 e q
 
-    module _ (v : List ℕ) {y : Rest} (f : y ≡ after_word v l end) where
-      pub pair_second : y ≡ Wrong → false ≡ is_pair k v (words l)
+    module _ (v : List ℕ) {y : Option ℕ} (f : y ≡ after_word v l end) where
+      pub pair_second : y ≡ None → false ≡ is_pair k v (words l)
       pair_second p = first_other (alone v) l end f p ∙ first_is (pair k v) l 0 e q
 
-      pub pair_is : {to : ℕ} → y ≡ At to → (t : Bool) → t ≡ is_none (words (drop to l)) → t ≡ is_pair k v (words l)
+      pub pair_is : {to : ℕ} → y ≡ Some to → (t : Bool) → t ≡ is_none (words (drop to l)) → t ≡ is_pair k v (words l)
       pair_is p t d = d ∙ first_is (alone v) l end f p ∙ first_is (pair k v) l 0 e q
 
   module _ (t : Bool) (d : t ≡ is_none (words l)) (o : t ≡ false) where
-    pub comment_other : x ≡ Wrong → false ≡ is_comment k (words l)
+    comment_other : x ≡ None → false ≡ is_comment k (words l)
     comment_other q = rw (← d, o) at (first_other (comment k) l 0 e q)
 
-    pub comment_is : {end : ℕ} → x ≡ At end → true ≡ is_comment k (words l)
+    comment_is : {end : ℕ} → x ≡ Some end → true ≡ is_comment k (words l)
     comment_is q = rw (← d, o) at (first_is (comment k) l 0 e q)
+
+    pub comment_if : (r : Bool) → r ≡ is_some x → r ≡ is_comment k (words l)
+    comment_if r q = q ∙ go x refl
+      where
+        go : (y : Option ℕ) → x ≡ y → is_some y ≡ is_comment k (words l)
+        go None p = comment_other p
+        go (Some end) p = comment_is p

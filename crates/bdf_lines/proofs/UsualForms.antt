@@ -8,25 +8,18 @@ use lib.ListN.{length, take, drop, get_or, length-drop, length-append}
 use lib.Seq.{drop-cons}
 use lib.Dec.{eqb, ltb}
 use borrow.Author.Tests.{eqb-true, eq-eqb, ne_eqb, ltb-true, lt-ltb}
+use Rattle.std.specs.Prelude.{Option, Some, None}
 use Rattle.characters.specs.Lines.{before, line_length, line_from, without_return}
 use Rattle.characters.proofs.Feeds.{return_absent}
+use Rattle.bdf_lines.specs.declared.values.Four.{Four}
 use Rattle.bdf_lines.specs.declared.values.Number.{Number}
-use Rattle.bdf_lines.specs.declared.values.Read.{Read}
-use Rattle.bdf_lines.specs.declared.values.Read.TheVariants.{Value, Wrong}
-use Rattle.bdf_lines.specs.declared.values.ReadAt.{ReadAt}
-use Rattle.bdf_lines.specs.declared.values.ReadAt.TheVariants as found
-use Rattle.bdf_lines.specs.declared.values.Four.TheVariants as four
-use Rattle.bdf_lines.specs.declared.words.Rest.{Rest}
-use Rattle.bdf_lines.specs.declared.words.Rest.TheVariants as rest
-use Rattle.bdf_lines.specs.declared.forms.FourAt.{FourAt}
-use Rattle.bdf_lines.specs.declared.forms.FourAt.TheVariants as four_at
-use Rattle.bdf_lines.specs.Words.{is_blank, begins_word, words, same, is_alone, is_named, is_digit, are_digits, digits_of, number_of, are_numbers, has_numbers, four_numbers, four_of, encoding_of}
+use Rattle.bdf_lines.specs.Words.{four, is_blank, begins_word, words, same, is_alone, is_named, is_digit, are_digits, digits_of, number_of, are_numbers, has_numbers, four_numbers, four_of, encoding_of}
 use Rattle.bdf_lines.specs.Keywords.{start_char, swidth, dwidth, bitmap, end_char, encoding, bbx}
 use Rattle.bdf_lines.specs.Forms.{line_at, LineTo, UsualLine, UsualEncoding, UsualBbx}
 use Rattle.bdf_lines.specs.Stands.{Stands, BytesFound, IsNumber, NumberFound, is_clear, is_plain, Spells, SpellsNumbers, TwoFound, TwoMore}
 use Rattle.bdf_lines.proofs.Positions.{split}
 use Rattle.bdf_lines.proofs.Numbers.{digit_low}
-use Rattle.bdf_lines.proofs.Stands.{no_number, not_at, at_is, not_found, not_four}
+use Rattle.bdf_lines.proofs.Stands.{not_some, at_is, found_is}
 
 -- ---- bytes of words
 
@@ -81,21 +74,21 @@ digits_plain (b ∷ s) e =
     let c = (and-eq-true_iff (is_digit b) (are_digits s)).0 e in
     rw (lt-ltb 0x20 b (omega (arith, digit_low b c.0)), digits_plain s c.1)
 
-digits_are : (minus : Bool) (s : List ℕ) (n : Number) → digits_of minus s ≡ Value n → are_digits s ≡ true
+digits_are : (minus : Bool) (s : List ℕ) (n : Number) → digits_of minus s ≡ Some n → are_digits s ≡ true
 unfolding digits_of
-digits_are minus [] n e = absurd (no_number n e)
+digits_are minus [] n e = absurd (not_some n e)
 digits_are minus (b ∷ s) n e = go _ (are_digits (b ∷ s)) e
   where
-    go : (y : Read) (t : Bool) → cond t y Wrong ≡ Value n → t ≡ true
+    go : (y : Option Number) (t : Bool) → cond t y None ≡ Some n → t ≡ true
     go y true q = refl
-    go y false q = absurd (no_number n q)
+    go y false q = absurd (not_some n q)
 
-number_plain : (w : List ℕ) (n : Number) → number_of w ≡ Value n → is_plain w ≡ true
+number_plain : (w : List ℕ) (n : Number) → number_of w ≡ Some n → is_plain w ≡ true
 unfolding number_of is_plain
 number_plain [] n e = refl
 number_plain (b ∷ s) n e = go (eqb b 0x2D) refl e
   where
-    go : (t : Bool) → eqb b 0x2D ≡ t → cond t (digits_of true s) (digits_of false (b ∷ s)) ≡ Value n → (ltb 0x20 b && is_plain s) ≡ true
+    go : (t : Bool) → eqb b 0x2D ≡ t → cond t (digits_of true s) (digits_of false (b ∷ s)) ≡ Some n → (ltb 0x20 b && is_plain s) ≡ true
     go true d q = rw (eqb-true b 0x2D d, digits_plain s (digits_are true s n q))
     go false d q = digits_plain (b ∷ s) (digits_are false (b ∷ s) n q)
 
@@ -183,20 +176,20 @@ module _ (file : List ℕ) (at next : ℕ) (n : Number) where
   unfolding number_of
   numbers-last i = go i.word i.number i.here
     where
-      go : (w : List ℕ) → number_of w ≡ Value n → drop at file ≡ w ++ (0x0A ∷ drop next file) → SpellsNumbers file at (n ∷ []) next
-      go [] e h = absurd (no_number n e)
-      go (b ∷ w) e h = record { ws = (b ∷ w) ∷ []; spells = spells_last file at next b w (number_plain (b ∷ w) n e) h i.inside; numbers = ap (λ (r : Read). r ∷ []) e }
+      go : (w : List ℕ) → number_of w ≡ Some n → drop at file ≡ w ++ (0x0A ∷ drop next file) → SpellsNumbers file at (n ∷ []) next
+      go [] e h = absurd (not_some n e)
+      go (b ∷ w) e h = record { ws = (b ∷ w) ∷ []; spells = spells_last file at next b w (number_plain (b ∷ w) n e) h i.inside; numbers = ap (λ (r : Option Number). r ∷ []) e }
 
   numbers_more : (ns : List Number) (to : ℕ) → IsNumber file at 0x20 n next → SpellsNumbers file next ns to → SpellsNumbers file at (n ∷ ns) to
   unfolding number_of
   numbers_more ns to i s = go i.word i.number i.here
     where
-      go : (w : List ℕ) → number_of w ≡ Value n → drop at file ≡ w ++ (0x20 ∷ drop next file) → SpellsNumbers file at (n ∷ ns) to
-      go [] e h = absurd (no_number n e)
+      go : (w : List ℕ) → number_of w ≡ Some n → drop at file ≡ w ++ (0x20 ∷ drop next file) → SpellsNumbers file at (n ∷ ns) to
+      go [] e h = absurd (not_some n e)
       go (b ∷ w) e h = record {
         ws = (b ∷ w) ∷ s.ws;
         spells = spells_more file at next to b w s.ws (number_plain (b ∷ w) n e) h s.spells;
-        numbers = ap (λ (r : Read). r ∷ map number_of s.ws) e ∙ ap (λ (rs : List Read). Value n ∷ rs) s.numbers;
+        numbers = ap (λ (r : Option Number). r ∷ map number_of s.ws) e ∙ ap (λ (rs : List (Option Number)). Some n ∷ rs) s.numbers;
       }
 
 -- ---- a keyword, and what stands after it
@@ -217,35 +210,35 @@ keyword_alone file at to b k p t = spells_last file at to b k p (t.here ∙ appe
 
 -- ---- the numbers of a line of that form
 
-two_are : (ws : List (List ℕ)) (m n : Number) → map number_of ws ≡ Value m ∷ Value n ∷ [] → are_numbers 2 ws ≡ true
+two_are : (ws : List (List ℕ)) (m n : Number) → map number_of ws ≡ Some m ∷ Some n ∷ [] → are_numbers 2 ws ≡ true
 unfolding are_numbers
 two_are [] m n e = cc
 two_are (u ∷ []) m n e = cc
 two_are (u ∷ v ∷ []) m n e =
-    let p : number_of u ≡ Value m = cc in
-    let q : number_of v ≡ Value n = cc in
+    let p : number_of u ≡ Some m = cc in
+    let q : number_of v ≡ Some n = cc in
     rw (p, q)
 two_are (u ∷ v ∷ w ∷ ws) m n e = cc
 
-four_are : (ws : List (List ℕ)) (a b c d : Number) → map number_of ws ≡ Value a ∷ Value b ∷ Value c ∷ Value d ∷ [] → four_numbers ws ≡ four.Numbers a b c d
+four_are : (ws : List (List ℕ)) (a b c d : Number) → map number_of ws ≡ Some a ∷ Some b ∷ Some c ∷ Some d ∷ [] → four_numbers ws ≡ Some (four a b c d)
 unfolding four_numbers
 four_are [] a b c d e = cc
 four_are (u ∷ []) a b c d e = cc
 four_are (u ∷ v ∷ []) a b c d e = cc
 four_are (u ∷ v ∷ w ∷ []) a b c d e = cc
 four_are (u ∷ v ∷ w ∷ x ∷ []) a b c d e =
-    let p : number_of u ≡ Value a = cc in
-    let q : number_of v ≡ Value b = cc in
-    let r : number_of w ≡ Value c = cc in
-    let s : number_of x ≡ Value d = cc in
+    let p : number_of u ≡ Some a = cc in
+    let q : number_of v ≡ Some b = cc in
+    let r : number_of w ≡ Some c = cc in
+    let s : number_of x ≡ Some d = cc in
     rw (p, q, r, s)
 four_are (u ∷ v ∷ w ∷ x ∷ y ∷ ws) a b c d e = cc
 
-one_is : (k : List ℕ) (ws : List (List ℕ)) (n : Number) → map number_of ws ≡ Value n ∷ [] → encoding_of k (k ∷ ws) ≡ Value n
+one_is : (k : List ℕ) (ws : List (List ℕ)) (n : Number) → map number_of ws ≡ Some n ∷ [] → encoding_of k (k ∷ ws) ≡ Some n
 unfolding encoding_of
 one_is k [] n e = cc
 one_is k (u ∷ []) n e =
-    let p : number_of u ≡ Value n = cc in
+    let p : number_of u ≡ Some n = cc in
     rw (same_word k, p)
 one_is k (u ∷ v ∷ ws) n e = cc
 
@@ -284,15 +277,15 @@ start_clear = refl
 -- ---- `two_numbers`, `scalable_width`, `device_width`
 
 module _ (file : List ℕ) (at : ℕ) where
-  pub line_none : (test : List (List ℕ) → Bool) → UsualLine file at test rest.Wrong
-  line_none test = record { found = λ to e. absurd (not_at to e) }
+  pub line_none : (test : List (List ℕ) → Bool) → UsualLine file at test None
+  line_none test = record { found = λ to e. absurd (not_some to e) }
 
   module _ (name : List ℕ) where
-    pub two_none : TwoFound file at name rest.Wrong
+    pub two_none : TwoFound file at name None
     two_none = record { found = λ b k p e. line_none (has_numbers (b ∷ k) 2) }
 
-    pub two_found : (first second end : ℕ) (m n : Number) (x : Rest) (y z : ReadAt) → BytesFound file at name x → x ≡ rest.At first
-        → NumberFound file first 0x20 y → y ≡ found.Value m second → NumberFound file second 0x0A z → z ≡ found.Value n end → TwoFound file at name (rest.At end)
+    pub two_found : (first second end : ℕ) (m n : Number) (x : Option ℕ) (y z : Option (Number × ℕ)) → BytesFound file at name x → x ≡ Some first
+        → NumberFound file first 0x20 y → y ≡ Some (m, second) → NumberFound file second 0x0A z → z ≡ Some (n, end) → TwoFound file at name (Some end)
     unfolding has_numbers
     two_found first second end m n x y z bx ex by ey bz ez = record {
       found = λ b k p e. record {
@@ -303,17 +296,17 @@ module _ (file : List ℕ) (at : ℕ) where
       };
     }
 
-  pub scalable_found : (x : Rest) → TwoFound file at (swidth ++ (0x20 ∷ [])) x → UsualLine file at (has_numbers swidth 2) x
+  pub scalable_found : (x : Option ℕ) → TwoFound file at (swidth ++ (0x20 ∷ [])) x → UsualLine file at (has_numbers swidth 2) x
   unfolding is_plain
   scalable_found x t = t.found _ _ refl refl
 
-  pub device_found : (x : Rest) → TwoFound file at (dwidth ++ (0x20 ∷ [])) x → UsualLine file at (has_numbers dwidth 2) x
+  pub device_found : (x : Option ℕ) → TwoFound file at (dwidth ++ (0x20 ∷ [])) x → UsualLine file at (has_numbers dwidth 2) x
   unfolding is_plain
   device_found x t = t.found _ _ refl refl
 
   -- ---- `bitmap_alone`, `end_char`
 
-  alone-found : (b : ℕ) (k : List ℕ) (x : Rest) → is_plain (b ∷ k) ≡ true → BytesFound file at ((b ∷ k) ++ (0x0A ∷ [])) x → UsualLine file at (is_alone (b ∷ k)) x
+  alone-found : (b : ℕ) (k : List ℕ) (x : Option ℕ) → is_plain (b ∷ k) ≡ true → BytesFound file at ((b ∷ k) ++ (0x0A ∷ [])) x → UsualLine file at (is_alone (b ∷ k)) x
   unfolding is_alone
   alone-found b k x p t = record {
     found = λ to q.
@@ -321,20 +314,20 @@ module _ (file : List ℕ) (at : ℕ) where
         (spells-to file at ((b ∷ k) ∷ []) to s, rw (spells-words file at ((b ∷ k) ∷ []) to s) (same_word (b ∷ k)));
   }
 
-  pub bitmap_found : (x : Rest) → BytesFound file at (bitmap ++ (0x0A ∷ [])) x → UsualLine file at (is_alone bitmap) x
+  pub bitmap_found : (x : Option ℕ) → BytesFound file at (bitmap ++ (0x0A ∷ [])) x → UsualLine file at (is_alone bitmap) x
   unfolding is_plain
   bitmap_found x = alone-found _ _ x refl
 
-  pub end_found : (x : Rest) → BytesFound file at (end_char ++ (0x0A ∷ [])) x → UsualLine file at (is_alone end_char) x
+  pub end_found : (x : Option ℕ) → BytesFound file at (end_char ++ (0x0A ∷ [])) x → UsualLine file at (is_alone end_char) x
   unfolding is_plain
   end_found x = alone-found _ _ x refl
 
   -- ---- `encoding_at`
 
-  pub encoding_none : UsualEncoding file at found.Wrong
-  encoding_none = record { found = λ n to e. absurd (not_found n to e) }
+  pub encoding_none : UsualEncoding file at None
+  encoding_none = record { found = λ n to e. absurd (not_some (n, to) e) }
 
-  pub encoding_found : (first : ℕ) (x : Rest) (y : ReadAt) → BytesFound file at (encoding ++ (0x20 ∷ [])) x → x ≡ rest.At first → NumberFound file first 0x0A y → UsualEncoding file at y
+  pub encoding_found : (first : ℕ) (x : Option ℕ) (y : Option (Number × ℕ)) → BytesFound file at (encoding ++ (0x20 ∷ [])) x → x ≡ Some first → NumberFound file first 0x0A y → UsualEncoding file at y
   unfolding is_plain
   encoding_found first x y bx ex by = record {
     found = λ n to q.
@@ -345,25 +338,25 @@ module _ (file : List ℕ) (at : ℕ) where
 
   -- ---- `two_more`, `bbx_at`
 
-  pub more_none : (a b : Number) → TwoMore file at a b four_at.Wrong
-  more_none a b = record { found = λ p q c d to e. absurd (not_four p q c d to e) }
+  pub more_none : (a b : Number) → TwoMore file at a b None
+  more_none a b = record { found = λ p q c d to e. absurd (not_some (four p q c d, to) e) }
 
-  pub more_found : (a b c d : Number) (fourth end : ℕ) (y z : ReadAt) → NumberFound file at 0x20 y → y ≡ found.Value c fourth → NumberFound file fourth 0x0A z → z ≡ found.Value d end
-      → TwoMore file at a b (four_at.Numbers a b c d end)
+  pub more_found : (a b c d : Number) (fourth end : ℕ) (y z : Option (Number × ℕ)) → NumberFound file at 0x20 y → y ≡ Some (c, fourth) → NumberFound file fourth 0x0A z → z ≡ Some (d, end)
+      → TwoMore file at a b (Some (four a b c d, end))
   more_found a b c d fourth end y z by ey bz ez = record {
     found = λ p q u v to e.
-        let third : c ≡ u = cc in
-        let last : d ≡ v = cc in
-        let ends : end ≡ to = cc in
+        let is = found_is (four a b c d) (four p q u v) end to e in
+        let third : c ≡ u = ap (λ (f : Four). f.x) is.0 in
+        let last : d ≡ v = ap (λ (f : Four). f.y) is.0 in
         let s = numbers_more file at fourth c (d ∷ []) end (by.found c fourth ey) (numbers-last file fourth end d (bz.found d end ez)) in
-        (cc, (cc, rw (third, last, ends) at s));
+        (sym (ap (λ (f : Four). f.width) is.0), (sym (ap (λ (f : Four). f.height) is.0), rw (third, last, is.1) at s));
   }
 
-  pub bbx_none : UsualBbx file at four_at.Wrong
-  bbx_none = record { found = λ a b c d to e. absurd (not_four a b c d to e) }
+  pub bbx_none : UsualBbx file at None
+  bbx_none = record { found = λ a b c d to e. absurd (not_some (four a b c d, to) e) }
 
-  pub bbx_found : (a b : Number) (first second third : ℕ) (x : Rest) (y z : ReadAt) (w : FourAt) → BytesFound file at (bbx ++ (0x20 ∷ [])) x → x ≡ rest.At first
-      → NumberFound file first 0x20 y → y ≡ found.Value a second → NumberFound file second 0x20 z → z ≡ found.Value b third → TwoMore file third a b w → UsualBbx file at w
+  pub bbx_found : (a b : Number) (first second third : ℕ) (x : Option ℕ) (y z : Option (Number × ℕ)) (w : Option (Four × ℕ)) → BytesFound file at (bbx ++ (0x20 ∷ [])) x → x ≡ Some first
+      → NumberFound file first 0x20 y → y ≡ Some (a, second) → NumberFound file second 0x20 z → z ≡ Some (b, third) → TwoMore file third a b w → UsualBbx file at w
   unfolding is_plain four_of
   bbx_found a b first second third x y z w bx ex by ey bz ez more = record {
     found = λ p q c d to e.
@@ -373,14 +366,14 @@ module _ (file : List ℕ) (at : ℕ) where
         let t = after_keyword file at first to _ _ s.ws refl (bx.found first ex) s.spells in (
           spells-to file at (bbx ∷ s.ws) to t,
           rw (spells-words file at (bbx ∷ s.ws) to t, same_word bbx) (four_are s.ws a b c d s.numbers)
-              ∙ ap (λ (n : Number). four.Numbers n b c d) (sym m.0) ∙ ap (λ (n : Number). four.Numbers p n c d) (sym m.1.0),
+              ∙ ap (λ (n : Number). Some (four n b c d)) (sym m.0) ∙ ap (λ (n : Number). Some (four p n c d)) (sym m.1.0),
         );
   }
 
   -- ---- `start_char`
 
-  pub named_found : (first end : ℕ) (x : Rest) → BytesFound file at (start_char ++ (0x20 ∷ [])) x → x ≡ rest.At first → first < length file → 0x20 < get_or file first 0
-      → end ≡ first + line_length (drop first file) → end < length file → UsualLine file at (is_named start_char) (rest.At (end + 1))
+  pub named_found : (first end : ℕ) (x : Option ℕ) → BytesFound file at (start_char ++ (0x20 ∷ [])) x → x ≡ Some first → first < length file → 0x20 < get_or file first 0
+      → end ≡ first + line_length (drop first file) → end < length file → UsualLine file at (is_named start_char) (Some (end + 1))
   named_found first end x bx ex h l e m =
       let s = bx.found first ex in
       let b = get_or file first 0 in

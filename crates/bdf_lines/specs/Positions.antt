@@ -1,14 +1,7 @@
 -- Words by their positions in a line, as its functions find them. Assumes nothing.
 -- Serves contracts: nothing here has to be believed.
-use Rattle.std.specs.Prelude.{ℕ, suc, ◌+◌, Bool, true, false, cond, List, [], ◌∷◌, drop}
-use Rattle.bdf_lines.specs.declared.values.Read.{Read}
-use Rattle.bdf_lines.specs.declared.values.Read.TheVariants as read
-use Rattle.bdf_lines.specs.declared.values.ReadAt.{ReadAt}
-use Rattle.bdf_lines.specs.declared.values.ReadAt.TheVariants as found
-use Rattle.bdf_lines.specs.declared.values.Row.{Row}
-use Rattle.bdf_lines.specs.declared.values.Row.TheVariants as row
-use Rattle.bdf_lines.specs.declared.words.Rest.{Rest}
-use Rattle.bdf_lines.specs.declared.words.Rest.TheVariants as rest
+use Rattle.std.specs.Prelude.{ℕ, suc, ◌+◌, Bool, true, false, cond, List, [], ◌∷◌, drop, Option, Some, None}
+use Rattle.bdf_lines.specs.declared.values.Number.{Number}
 use Rattle.bdf_lines.specs.Words.{is_blank, words, same, number_of, are_hex, hex_from}
 
 -- how many blanks lead a line
@@ -29,26 +22,26 @@ abbrev pub is_none : List (List ℕ) → Bool
 is_none [] = true
 is_none (w ∷ ws) = false
 
-abbrev pub after_if : List ℕ → List (List ℕ) → ℕ → Rest
-after_if k [] end = rest.Wrong
-after_if k (w ∷ ws) end = cond (same w k) (rest.At end) rest.Wrong
+abbrev pub after_if : List ℕ → List (List ℕ) → ℕ → Option ℕ
+after_if k [] end = None
+after_if k (w ∷ ws) end = cond (same w k) (Some end) None
 
 -- the position after the first word from a position on, if it is k
-unfoldable pub after_word : List ℕ → List ℕ → ℕ → Rest
+unfoldable pub after_word : List ℕ → List ℕ → ℕ → Option ℕ
 after_word k l at = after_if k (words (drop at l)) (word_end l at)
 
-abbrev pub found_at : Read → ℕ → ReadAt
-found_at (read.Value n) end = found.Value n end
-found_at read.Wrong end = found.Wrong
+abbrev pub found_at : Option Number → ℕ → Option (Number × ℕ)
+found_at (Some n) end = Some (n, end)
+found_at None end = None
 
-abbrev pub first_number : List (List ℕ) → ℕ → ReadAt
-first_number [] end = found.Wrong
+abbrev pub first_number : List (List ℕ) → ℕ → Option (Number × ℕ)
+first_number [] end = None
 first_number (w ∷ ws) end = found_at (number_of w) end
 
 -- the number that is the first word from a position on, and the position after it
-unfoldable pub number_at : List ℕ → ℕ → ReadAt
+unfoldable pub number_at : List ℕ → ℕ → Option (Number × ℕ)
 number_at l at = first_number (words (drop at l)) (word_end l at)
 
 -- hexadecimal digits as a number
-unfoldable pub hex_of : List ℕ → Row
-hex_of s = cond (are_hex s) (row.Bits (hex_from 0 s)) row.Wrong
+unfoldable pub hex_of : List ℕ → Option ℕ
+hex_of s = cond (are_hex s) (Some (hex_from 0 s)) None

@@ -1,15 +1,9 @@
 -- Bytes that stand in a file from one position to another, numbers among them, and the words up to a feed. Assumes nothing.
 -- Serves contracts: nothing here has to be believed.
-use Rattle.std.specs.Prelude.{ℕ, ◌≤◌, ◌≡◌, Bool, true, not, ◌&&◌, ◌||◌, List, [], ◌∷◌, ◌++◌, map, length, drop, eqb, ltb}
+use Rattle.std.specs.Prelude.{ℕ, ◌≤◌, ◌≡◌, Bool, true, not, ◌&&◌, ◌||◌, List, [], ◌∷◌, ◌++◌, map, length, drop, Option, Some, eqb, ltb}
 use Rattle.bdf_lines.specs.declared.values.Number.{Number}
-use Rattle.bdf_lines.specs.declared.values.Read.TheVariants.{Value}
-use Rattle.bdf_lines.specs.declared.values.ReadAt.{ReadAt}
-use Rattle.bdf_lines.specs.declared.values.ReadAt.TheVariants as found
-use Rattle.bdf_lines.specs.declared.words.Rest.{Rest}
-use Rattle.bdf_lines.specs.declared.words.Rest.TheVariants as rest
-use Rattle.bdf_lines.specs.declared.forms.FourAt.{FourAt}
-use Rattle.bdf_lines.specs.declared.forms.FourAt.TheVariants as four_at
-use Rattle.bdf_lines.specs.Words.{words, digits_of, number_of, has_numbers}
+use Rattle.bdf_lines.specs.declared.values.Four.{Four}
+use Rattle.bdf_lines.specs.Words.{words, four, digits_of, number_of, has_numbers}
 use Rattle.bdf_lines.specs.Forms.{UsualLine}
 
 -- ---- given bytes
@@ -19,30 +13,30 @@ pub record Stands (file : List ℕ) (at : ℕ) (t : List ℕ) (to : ℕ) : Type 
   pub here : drop at file ≡ t ++ drop to file
   pub inside : to ≤ length file
 
-pub record BytesFound (file : List ℕ) (at : ℕ) (t : List ℕ) (x : Rest) : Type 0 where
-  pub found : (to : ℕ) → x ≡ rest.At to → Stands file at t to
+pub record BytesFound (file : List ℕ) (at : ℕ) (t : List ℕ) (x : Option ℕ) : Type 0 where
+  pub found : (to : ℕ) → x ≡ Some to → Stands file at t to
 
 -- ---- numbers
 
 -- digits, and the byte `stop` after them
 pub record IsDigits (file : List ℕ) (at : ℕ) (minus : Bool) (stop : ℕ) (n : Number) (to : ℕ) : Type 0 where
   pub word : List ℕ
-  pub number : digits_of minus word ≡ Value n
+  pub number : digits_of minus word ≡ Some n
   pub here : drop at file ≡ word ++ (stop ∷ drop to file)
   pub inside : to ≤ length file
 
-pub record DigitsFound (file : List ℕ) (at : ℕ) (minus : Bool) (stop : ℕ) (x : ReadAt) : Type 0 where
-  pub found : (n : Number) (to : ℕ) → x ≡ found.Value n to → IsDigits file at minus stop n to
+pub record DigitsFound (file : List ℕ) (at : ℕ) (minus : Bool) (stop : ℕ) (x : Option (Number × ℕ)) : Type 0 where
+  pub found : (n : Number) (to : ℕ) → x ≡ Some (n, to) → IsDigits file at minus stop n to
 
 -- a number, and the byte `stop` after it
 pub record IsNumber (file : List ℕ) (at stop : ℕ) (n : Number) (to : ℕ) : Type 0 where
   pub word : List ℕ
-  pub number : number_of word ≡ Value n
+  pub number : number_of word ≡ Some n
   pub here : drop at file ≡ word ++ (stop ∷ drop to file)
   pub inside : to ≤ length file
 
-pub record NumberFound (file : List ℕ) (at stop : ℕ) (x : ReadAt) : Type 0 where
-  pub found : (n : Number) (to : ℕ) → x ≡ found.Value n to → IsNumber file at stop n to
+pub record NumberFound (file : List ℕ) (at stop : ℕ) (x : Option (Number × ℕ)) : Type 0 where
+  pub found : (n : Number) (to : ℕ) → x ≡ Some (n, to) → IsNumber file at stop n to
 
 -- ---- words up to a feed
 
@@ -68,12 +62,12 @@ pub record Spells (file : List ℕ) (at : ℕ) (ws : List (List ℕ)) (to : ℕ)
 pub record SpellsNumbers (file : List ℕ) (at : ℕ) (ns : List Number) (to : ℕ) : Type 0 where
   pub ws : List (List ℕ)
   pub spells : Spells file at ws to
-  pub numbers : map number_of ws ≡ map Value ns
+  pub numbers : map number_of ws ≡ map Some ns
 
 -- two numbers after the keyword k, which the given bytes are with a blank after it
-pub record TwoFound (file : List ℕ) (at : ℕ) (name : List ℕ) (x : Rest) : Type 0 where
+pub record TwoFound (file : List ℕ) (at : ℕ) (name : List ℕ) (x : Option ℕ) : Type 0 where
   pub found : (b : ℕ) (k : List ℕ) → is_plain (b ∷ k) ≡ true → name ≡ (b ∷ k) ++ (0x20 ∷ []) → UsualLine file at (has_numbers (b ∷ k) 2) x
 
 -- two numbers after two others
-pub record TwoMore (file : List ℕ) (at : ℕ) (a b : Number) (x : FourAt) : Type 0 where
-  pub found : (p q c d : Number) (to : ℕ) → x ≡ four_at.Numbers p q c d to → (p ≡ a) × ((q ≡ b) × SpellsNumbers file at (c ∷ d ∷ []) to)
+pub record TwoMore (file : List ℕ) (at : ℕ) (a b : Number) (x : Option (Four × ℕ)) : Type 0 where
+  pub found : (p q c d : Number) (to : ℕ) → x ≡ Some (four p q c d, to) → (p ≡ a) × ((q ≡ b) × SpellsNumbers file at (c ∷ d ∷ []) to)

@@ -1,16 +1,9 @@
 -- The words of a line of a font file, and its numbers (docs/SHEET.md, Fonts from BDF). Assumes nothing.
 -- To be believed: it says what a font file means.
-use Rattle.std.specs.Prelude.{ℕ, zero, suc, ◌+◌, ◌-◌, ◌*◌, ◌/◌, ◌^◌, min, Bool, true, false, not, cond, ◌&&◌, ◌||◌, List, [], ◌∷◌, length, ltb, leb, eqb}
+use Rattle.std.specs.Prelude.{ℕ, zero, suc, ◌+◌, ◌-◌, ◌*◌, ◌/◌, ◌^◌, min, Bool, true, false, not, cond, ◌&&◌, ◌||◌, List, [], ◌∷◌, length, Option, Some, None, ltb, leb, eqb}
 use Rattle.characters.specs.Lines.{before}
 use Rattle.bdf_lines.specs.declared.values.Number.{Number}
-use Rattle.bdf_lines.specs.declared.values.Read.{Read}
-use Rattle.bdf_lines.specs.declared.values.Read.TheVariants.{Value, Wrong}
-use Rattle.bdf_lines.specs.declared.values.Count.{Count}
-use Rattle.bdf_lines.specs.declared.values.Count.TheVariants as count
 use Rattle.bdf_lines.specs.declared.values.Four.{Four}
-use Rattle.bdf_lines.specs.declared.values.Four.TheVariants as four
-use Rattle.bdf_lines.specs.declared.values.Row.{Row}
-use Rattle.bdf_lines.specs.declared.values.Row.TheVariants as row
 
 -- ---- words
 
@@ -83,18 +76,18 @@ most = 18_000_000_000_000_000_000
 unfoldable pub signed : Bool → ℕ → Number
 signed minus v = record { negative = minus && ltb 0 v; size = v }
 
-unfoldable pub digits_of : Bool → List ℕ → Read
-digits_of minus [] = Wrong
-digits_of minus (b ∷ s) = cond (are_digits (b ∷ s)) (Value (signed minus (min (decimal_from 0 (b ∷ s)) most))) Wrong
+unfoldable pub digits_of : Bool → List ℕ → Option Number
+digits_of minus [] = None
+digits_of minus (b ∷ s) = cond (are_digits (b ∷ s)) (Some (signed minus (min (decimal_from 0 (b ∷ s)) most))) None
 
 -- "A number is decimal digits, perhaps after one `-`"
-unfoldable pub number_of : List ℕ → Read
-number_of [] = Wrong
+unfoldable pub number_of : List ℕ → Option Number
+number_of [] = None
 number_of (b ∷ s) = cond (eqb b 0x2D) (digits_of true s) (digits_of false (b ∷ s))
 
-abbrev pub is_value : Read → Bool
-is_value (Value n) = true
-is_value Wrong = false
+abbrev pub is_value : Option Number → Bool
+is_value (Some n) = true
+is_value None = false
 
 -- just n words, each a number
 unfoldable pub are_numbers : ℕ → List (List ℕ) → Bool
@@ -109,50 +102,54 @@ has_numbers k n [] = false
 has_numbers k n (w ∷ ws) = same w k && are_numbers n ws
 
 -- the number as a count, if it is not negative
-abbrev pub as_count : Read → Count
-as_count (Value n) = cond n.negative count.Wrong (count.Of n.size)
-as_count Wrong = count.Wrong
+abbrev pub as_count : Option Number → Option ℕ
+as_count (Some n) = cond n.negative None (Some n.size)
+as_count None = None
 
 -- the keyword and a count
-unfoldable pub count_of : List ℕ → List (List ℕ) → Count
-count_of k [] = count.Wrong
-count_of k (w ∷ []) = count.Wrong
-count_of k (w ∷ v ∷ []) = cond (same w k) (as_count (number_of v)) count.Wrong
-count_of k (w ∷ v ∷ u ∷ ws) = count.Wrong
+unfoldable pub count_of : List ℕ → List (List ℕ) → Option ℕ
+count_of k [] = None
+count_of k (w ∷ []) = None
+count_of k (w ∷ v ∷ []) = cond (same w k) (as_count (number_of v)) None
+count_of k (w ∷ v ∷ u ∷ ws) = None
 
-abbrev pub all_four : Read → Read → Read → Read → Four
-all_four (Value a) (Value b) (Value c) (Value d) = four.Numbers a b c d
-all_four (Value a) (Value b) (Value c) Wrong = four.Wrong
-all_four (Value a) (Value b) Wrong r = four.Wrong
-all_four (Value a) Wrong q r = four.Wrong
-all_four Wrong p q r = four.Wrong
+-- the four numbers of a box
+abbrev pub four : Number → Number → Number → Number → Four
+four w h x y = record { width = w; height = h; x = x; y = y }
+
+abbrev pub all_four : Option Number → Option Number → Option Number → Option Number → Option Four
+all_four (Some a) (Some b) (Some c) (Some d) = Some (four a b c d)
+all_four (Some a) (Some b) (Some c) None = None
+all_four (Some a) (Some b) None r = None
+all_four (Some a) None q r = None
+all_four None p q r = None
 
 -- four numbers and no more
-unfoldable pub four_numbers : List (List ℕ) → Four
-four_numbers [] = four.Wrong
-four_numbers (a ∷ []) = four.Wrong
-four_numbers (a ∷ b ∷ []) = four.Wrong
-four_numbers (a ∷ b ∷ c ∷ []) = four.Wrong
+unfoldable pub four_numbers : List (List ℕ) → Option Four
+four_numbers [] = None
+four_numbers (a ∷ []) = None
+four_numbers (a ∷ b ∷ []) = None
+four_numbers (a ∷ b ∷ c ∷ []) = None
 four_numbers (a ∷ b ∷ c ∷ d ∷ []) = all_four (number_of a) (number_of b) (number_of c) (number_of d)
-four_numbers (a ∷ b ∷ c ∷ d ∷ e ∷ ws) = four.Wrong
+four_numbers (a ∷ b ∷ c ∷ d ∷ e ∷ ws) = None
 
 -- the keyword and four numbers
-unfoldable pub four_of : List ℕ → List (List ℕ) → Four
-four_of k [] = four.Wrong
-four_of k (w ∷ ws) = cond (same w k) (four_numbers ws) four.Wrong
+unfoldable pub four_of : List ℕ → List (List ℕ) → Option Four
+four_of k [] = None
+four_of k (w ∷ ws) = cond (same w k) (four_numbers ws) None
 
 -- −1 and a second number
-abbrev pub minus_one : Read → Read → Read
-minus_one (Value n) r = cond (n.negative && (eqb n.size 1 && is_value r)) (Value n) Wrong
-minus_one Wrong r = Wrong
+abbrev pub minus_one : Option Number → Option Number → Option Number
+minus_one (Some n) r = cond (n.negative && (eqb n.size 1 && is_value r)) (Some n) None
+minus_one None r = None
 
 -- the keyword and "one number, or −1 and a second number": the first number
-unfoldable pub encoding_of : List ℕ → List (List ℕ) → Read
-encoding_of k [] = Wrong
-encoding_of k (w ∷ []) = Wrong
-encoding_of k (w ∷ v ∷ []) = cond (same w k) (number_of v) Wrong
-encoding_of k (w ∷ v ∷ u ∷ []) = cond (same w k) (minus_one (number_of v) (number_of u)) Wrong
-encoding_of k (w ∷ v ∷ u ∷ x ∷ ws) = Wrong
+unfoldable pub encoding_of : List ℕ → List (List ℕ) → Option Number
+encoding_of k [] = None
+encoding_of k (w ∷ []) = None
+encoding_of k (w ∷ v ∷ []) = cond (same w k) (number_of v) None
+encoding_of k (w ∷ v ∷ u ∷ []) = cond (same w k) (minus_one (number_of v) (number_of u)) None
+encoding_of k (w ∷ v ∷ u ∷ x ∷ ws) = None
 
 -- ---- hexadecimal digits "of either case"
 
@@ -186,5 +183,5 @@ is_row width l = eqb (length l) (2 * ((width + 7) / 8)) && are_hex l
 unfoldable pub row_bits : ℕ → List ℕ → ℕ
 row_bits width l = hex_from 0 l / 2 ^ (8 * ((width + 7) / 8) - width)
 
-unfoldable pub row_of : ℕ → List ℕ → Row
-row_of width l = cond (is_row width l) (row.Bits (row_bits width l)) row.Wrong
+unfoldable pub row_of : ℕ → List ℕ → Option ℕ
+row_of width l = cond (is_row width l) (Some (row_bits width l)) None

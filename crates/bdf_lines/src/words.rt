@@ -1,65 +1,37 @@
 // The words of a line, and the lines that begin with a keyword.
 ghost use Rattle.std.specs.Prelude.{◌≡◌, ◌+◌, drop};
 ghost use Rattle.bdf_lines.specs.Keywords.{comment};
-ghost use Rattle.bdf_lines.specs.Words.{is_blank, words, same, is_alone, is_named, is_pair, is_comment};
+ghost use Rattle.bdf_lines.specs.Words.{is_blank, words, is_alone, is_named, is_pair, is_comment};
 ghost use Rattle.bdf_lines.specs.Positions.{blanks, letters, is_none, after_word};
-
-// What stands after the keyword that a line begins with: the rest of the line from a position on, if it does begin with it.
-#[derive(Clone, Copy)]
-pub enum Rest {
-    At(usize),
-    Wrong,
-}
 
 fn is_blank(b: u8) -> bool
     ensures { result ≡ is_blank b }
 {
-    (b == 0x20) | (b == 0x09)
+    b == b' ' || b == b'\t'
 }
 
 // Where a word begins, from a position on, or the line's end.
 pub fn word_start(line: &[u8], from: usize) -> usize
     ensures { result ≡ from + blanks (drop from line.now) }
 {
-    let mut i = from;
-    while i < line.len() {
+    for i in from..line.len() {
         if !is_blank(line[i]) {
             return i;
         }
-        i += 1;
     }
-    i
+    from.max(line.len())
 }
 
 // Where a word that begins at a position ends.
 pub fn word_end(line: &[u8], from: usize) -> usize
     ensures { result ≡ from + letters (drop from line.now) }
 {
-    let mut i = from;
-    while i < line.len() {
+    for i in from..line.len() {
         if is_blank(line[i]) {
             return i;
         }
-        i += 1;
     }
-    i
-}
-
-// Whether two words are the same.
-fn same(word: &[u8], name: &[u8]) -> bool
-    ensures { result ≡ same word.now name.now }
-{
-    if word.len() != name.len() {
-        return false;
-    }
-    let mut i = 0;
-    while i < name.len() {
-        if word[i] != name[i] {
-            return false;
-        }
-        i += 1;
-    }
-    true
+    from.max(line.len())
 }
 
 // Whether no word stands from a position on.
@@ -70,26 +42,27 @@ pub fn is_end(line: &[u8], at: usize) -> bool
     line.len() <= from
 }
 
-// Whether the first word from a position on is the given one, and what stands after it.
-pub fn after_word(line: &[u8], at: usize, name: &[u8]) -> Rest
+// The position after the first word from a position on, if it is the given one.
+pub fn after_word(line: &[u8], at: usize, name: &[u8]) -> Option<usize>
     ensures { result ≡ after_word name.now line.now at }
 {
     let from = word_start(line, at);
     if line.len() <= from {
-        return Rest::Wrong;
+        return None;
     }
     let to = word_end(line, from);
-    if same(&line[from..to], name) {
-        return Rest::At(to);
+    let word = &line[from..to];
+    if word == name {
+        return Some(to);
     }
-    Rest::Wrong
+    None
 }
 
 // The keyword alone.
 pub fn is_alone(line: &[u8], name: &[u8]) -> bool
     ensures { result ≡ is_alone name.now (words line.now) }
 {
-    let Rest::At(at) = after_word(line, 0, name) else {
+    let Some(at) = after_word(line, 0, name) else {
         return false;
     };
     is_end(line, at)
@@ -99,7 +72,7 @@ pub fn is_alone(line: &[u8], name: &[u8]) -> bool
 pub fn is_named(line: &[u8], name: &[u8]) -> bool
     ensures { result ≡ is_named name.now (words line.now) }
 {
-    let Rest::At(at) = after_word(line, 0, name) else {
+    let Some(at) = after_word(line, 0, name) else {
         return false;
     };
     !is_end(line, at)
@@ -109,10 +82,10 @@ pub fn is_named(line: &[u8], name: &[u8]) -> bool
 pub fn is_pair(line: &[u8], name: &[u8], given: &[u8]) -> bool
     ensures { result ≡ is_pair name.now given.now (words line.now) }
 {
-    let Rest::At(at) = after_word(line, 0, name) else {
+    let Some(at) = after_word(line, 0, name) else {
         return false;
     };
-    let Rest::At(end) = after_word(line, at, given) else {
+    let Some(end) = after_word(line, at, given) else {
         return false;
     };
     is_end(line, end)
@@ -125,8 +98,5 @@ pub fn is_comment(line: &[u8]) -> bool
     if is_end(line, 0) {
         return true;
     }
-    let Rest::At(_) = after_word(line, 0, b"COMMENT") else {
-        return false;
-    };
-    true
+    after_word(line, 0, b"COMMENT").is_some()
 }

@@ -2,14 +2,14 @@
 use Rattle.bdf_lines.proofs.UsualForms.{bbx_none, bbx_found}
 use Rattle.bdf_lines.proofs.forms.bbx_at.Goals as goal
 
-pub returns-in_default : goal.returns-in_default
-returns-in_default c = search bbx_none
+pub returns-in_err-first : goal.returns-in_err-first
+returns-in_err-first c = rw c.from_residual.ensures (search bbx_none)
 
-pub returns-in_default-number_to : goal.returns-in_default-number_to
-returns-in_default-number_to c = search bbx_none
+pub returns-in_err-width : goal.returns-in_err-width
+returns-in_err-width c = rw c.from_residual-in_err-width.ensures (search bbx_none)
 
-pub returns-in_default-number_to-2 : goal.returns-in_default-number_to-2
-returns-in_default-number_to-2 c = search bbx_none
+pub returns-in_err-height : goal.returns-in_err-height
+returns-in_err-height c = rw c.from_residual-in_err-height.ensures (search bbx_none)
 
 pub returns : goal.returns
-returns c = search bbx_found
+returns c = search (bbx_found, c.in_ok-first.was, c.in_ok-width.was, c.in_ok-height.was)

@@ -1,12 +1,8 @@
 -- `digits_to` meets its contract: the digits to come go on with the number so far. Assumes nothing.
-use Prim.Native.Nat.{◌≤◌, ◌-◌}
-use lib.ListN.{length}
+use Prim.Native.Nat.{◌≤◌}
 use Rattle.bdf_lines.specs.Words.{most}
 use Rattle.bdf_lines.proofs.Stands.{Running}
 use Rattle.bdf_lines.proofs.forms.digits_to.Given as goal
 
 abbrev pub invariant-loop-i : goal.invariant-loop-i
 invariant-loop-i l = (l.v ≤ most) × Running l.file l.from l.i l.v
-
-abbrev pub decreases-loop-i : goal.decreases-loop-i
-decreases-loop-i l = length l.file - l.i

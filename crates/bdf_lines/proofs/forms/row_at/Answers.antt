@@ -5,11 +5,11 @@ use Rattle.bdf_lines.proofs.forms.row_at.Goals as goal
 pub returns-then-file-at : goal.returns-then-file-at
 returns-then-file-at c = search row_none
 
-pub returns-in_default : goal.returns-in_default
-returns-in_default c = search row_none
+pub returns-in_err-end : goal.returns-in_err-end
+returns-in_err-end c = rw c.from_residual.ensures (search row_none)
 
-pub returns-in_default-row_of : goal.returns-in_default-row_of
-returns-in_default-row_of c = search row_none
+pub returns-in_err-bits : goal.returns-in_err-bits
+returns-in_err-bits c = rw c.from_residual-in_err-bits.ensures (search row_none)
 
 pub returns : goal.returns
-returns c = search row_found
+returns c = search (row_found, c.in_ok-end.was, c.in_ok-bits.was)

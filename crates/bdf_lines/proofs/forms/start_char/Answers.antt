@@ -2,8 +2,8 @@
 use Rattle.bdf_lines.proofs.UsualForms.{line_none, named_found}
 use Rattle.bdf_lines.proofs.forms.start_char.Goals as goal
 
-pub returns-in_default : goal.returns-in_default
-returns-in_default c = search line_none
+pub returns-in_err-first : goal.returns-in_err-first
+returns-in_err-first c = rw c.from_residual.ensures (search line_none)
 
 pub returns-then-file-first : goal.returns-then-file-first
 returns-then-file-first c = search line_none
@@ -15,4 +15,4 @@ pub returns-then-file-end : goal.returns-then-file-end
 returns-then-file-end c = search line_none
 
 pub returns : goal.returns
-returns c = search named_found
+returns c = search (named_found, c.in_ok-first.was)

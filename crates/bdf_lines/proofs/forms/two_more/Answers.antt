@@ -2,11 +2,11 @@
 use Rattle.bdf_lines.proofs.UsualForms.{more_none, more_found}
 use Rattle.bdf_lines.proofs.forms.two_more.Goals as goal
 
-pub returns-in_default : goal.returns-in_default
-returns-in_default c = search more_none
+pub returns-in_err-x : goal.returns-in_err-x
+returns-in_err-x c = rw c.from_residual.ensures (search more_none)
 
-pub returns-in_default-number_to : goal.returns-in_default-number_to
-returns-in_default-number_to c = search more_none
+pub returns-in_err-y : goal.returns-in_err-y
+returns-in_err-y c = rw c.from_residual-in_err-y.ensures (search more_none)
 
 pub returns : goal.returns
-returns c = search more_found
+returns c = search (more_found, c.in_ok-x.was, c.in_ok-y.was)

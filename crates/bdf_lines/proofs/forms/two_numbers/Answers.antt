@@ -2,14 +2,14 @@
 use Rattle.bdf_lines.proofs.UsualForms.{two_none, two_found}
 use Rattle.bdf_lines.proofs.forms.two_numbers.Goals as goal
 
-pub returns-in_default : goal.returns-in_default
-returns-in_default c = search two_none
+pub returns-in_err-first : goal.returns-in_err-first
+returns-in_err-first c = rw c.from_residual.ensures (search two_none)
 
-pub returns-in_default-number_to : goal.returns-in_default-number_to
-returns-in_default-number_to c = search two_none
+pub returns-in_err-second : goal.returns-in_err-second
+returns-in_err-second c = rw c.from_residual-in_err-second.ensures (search two_none)
 
-pub returns-in_default-number_to-2 : goal.returns-in_default-number_to-2
-returns-in_default-number_to-2 c = search two_none
+pub returns-in_err-end : goal.returns-in_err-end
+returns-in_err-end c = rw c.from_residual-in_err-end.ensures (search two_none)
 
 pub returns : goal.returns
-returns c = search two_found
+returns c = search (two_found, c.in_ok-first.was, c.in_ok-second.was, c.in_ok-end.was)

@@ -3,11 +3,11 @@ use borrow.Author.Rules.{rules}
 use Rattle.bdf_lines.proofs.Numbers.{passed, failed, digits_none, digits-start, digits_wrong, digits_again, digits_end}
 use Rattle.bdf_lines.proofs.values.digits.Goals as goal
 
-pub returns-then-word-from : goal.returns-then-word-from
-returns-then-word-from c = search digits_none
+pub returns-then-is_empty : goal.returns-then-is_empty
+returns-then-is_empty c = search digits_none
 
-pub loop-i-init : goal.loop-i-init
-loop-i-init c = (search rules, search digits-start)
+pub loop-b-init : goal.loop-b-init
+loop-b-init c = (search rules, search digits-start)
 
 pub returns-then-not-is_digit : goal.returns-then-not-is_digit
 returns-then-not-is_digit c = search (digits_wrong, failed)
@@ -15,8 +15,8 @@ returns-then-not-is_digit c = search (digits_wrong, failed)
 pub appended-v-requires-clause-digit_value : goal.appended-v-requires-clause-digit_value
 appended-v-requires-clause-digit_value c = search passed
 
-pub loop-i-preserved : goal.loop-i-preserved
-loop-i-preserved c = (search rules, search (digits_again, passed))
+pub loop-b-preserved : goal.loop-b-preserved
+loop-b-preserved c = (search rules, search (digits_again, passed))
 
 pub returns : goal.returns
 returns c = search digits_end

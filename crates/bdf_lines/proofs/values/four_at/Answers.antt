@@ -2,20 +2,20 @@
 use Rattle.bdf_lines.proofs.NumberLines.{four_wrong_first, four_wrong_second, four_wrong_third, four_wrong_fourth, four_is, four_more}
 use Rattle.bdf_lines.proofs.values.four_at.Goals as goal
 
-pub returns-in_default : goal.returns-in_default
-returns-in_default c = search four_wrong_first
+pub returns-in_err-width : goal.returns-in_err-width
+returns-in_err-width c = rw c.from_residual.ensures (search (four_wrong_first, c.in_err-width.was))
 
-pub returns-in_default-number_at : goal.returns-in_default-number_at
-returns-in_default-number_at c = search four_wrong_second
+pub returns-in_err-height : goal.returns-in_err-height
+returns-in_err-height c = rw c.from_residual-in_err-height.ensures (search (four_wrong_second, c.in_ok-width.was, c.in_err-height.was))
 
-pub returns-in_default-number_at-2 : goal.returns-in_default-number_at-2
-returns-in_default-number_at-2 c = search four_wrong_third
+pub returns-in_err-x : goal.returns-in_err-x
+returns-in_err-x c = rw c.from_residual-in_err-x.ensures (search (four_wrong_third, c.in_ok-width.was, c.in_ok-height.was, c.in_err-x.was))
 
-pub returns-in_default-number_at-3 : goal.returns-in_default-number_at-3
-returns-in_default-number_at-3 c = search four_wrong_fourth
+pub returns-in_err-y : goal.returns-in_err-y
+returns-in_err-y c = rw c.from_residual-in_err-y.ensures (search (four_wrong_fourth, c.in_ok-width.was, c.in_ok-height.was, c.in_ok-x.was, c.in_err-y.was))
 
-pub returns-then-is_end : goal.returns-then-is_end
-returns-then-is_end c = search four_is
+pub returns-then-not-is_end : goal.returns-then-not-is_end
+returns-then-not-is_end c = search (four_more, c.in_ok-width.was, c.in_ok-height.was, c.in_ok-x.was, c.in_ok-y.was)
 
 pub returns : goal.returns
-returns c = search four_more
+returns c = search (four_is, c.in_ok-width.was, c.in_ok-height.was, c.in_ok-x.was, c.in_ok-y.was)

@@ -5,14 +5,14 @@ use Rattle.bdf_lines.proofs.values.has_numbers.Goals as goal
 pub returns-in_default : goal.returns-in_default
 returns-in_default c = search numbers_other
 
-pub loop-left-init : goal.loop-left-init
-loop-left-init c = search numbers-start
+pub loop-init : goal.loop-init
+loop-init c = search numbers-start
 
 pub returns-in_default-number_at : goal.returns-in_default-number_at
 returns-in_default-number_at c = search numbers_wrong
 
-pub loop-left-preserved : goal.loop-left-preserved
-loop-left-preserved c = search numbers_again
+pub loop-preserved : goal.loop-preserved
+loop-preserved c = search numbers_again
 
 pub returns : goal.returns
 returns c = search numbers_end

@@ -1,12 +1,7 @@
 -- `hexadecimal` meets its contract. The invariant: if all digits so far are digits, i of them are below 16 ^ i, and the digits to come, after their number, say what
 -- all of them say; if one is none, the answer is Wrong. Assumes nothing.
-use Prim.Native.Nat.{◌-◌}
-use lib.ListN.{length}
 use Rattle.bdf_lines.proofs.Numbers.{HexInv}
 use Rattle.bdf_lines.proofs.values.hexadecimal.Given as goal
 
-abbrev pub invariant-loop-i : goal.invariant-loop-i
-invariant-loop-i l = HexInv l.digits l.v l.all l.i
-
-abbrev pub decreases-loop-i : goal.decreases-loop-i
-decreases-loop-i l = length l.digits - l.i
+abbrev pub invariant-loop-b : goal.invariant-loop-b
+invariant-loop-b l = HexInv l.digits l.v l.all l.b-index

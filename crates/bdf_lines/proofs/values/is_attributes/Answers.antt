@@ -1,6 +1,6 @@
 -- `is_attributes` meets its contract: a law for each way out. Assumes nothing.
 use Rattle.bdf_lines.proofs.Positions.{to_within}
-use Rattle.bdf_lines.proofs.NumberLines.{long_within, attributes_other, attributes_more, attributes-length, attributes_wrong, attributes_is}
+use Rattle.bdf_lines.proofs.NumberLines.{long_within, attributes_other, attributes_more, attributes-length, attributes_if}
 use Rattle.bdf_lines.proofs.values.is_attributes.Goals as goal
 
 pub returns-in_default : goal.returns-in_default
@@ -15,8 +15,5 @@ returns-then-to-from-ne4 c = search attributes-length
 pub slice_bounds-hexadecimal-end : goal.slice_bounds-hexadecimal-end
 slice_bounds-hexadecimal-end c = search (to_within, long_within)
 
-pub returns-in_default-hexadecimal : goal.returns-in_default-hexadecimal
-returns-in_default-hexadecimal c = search attributes_wrong
-
 pub returns : goal.returns
-returns c = search attributes_is
+returns c = search attributes_if

@@ -9,8 +9,8 @@ returns-then-line-from c = search number_past
 pub slice_bounds-number_of-end : goal.slice_bounds-number_of-end
 slice_bounds-number_of-end c = search to_within
 
-pub returns-in_default : goal.returns-in_default
-returns-in_default c = search number_wrong
+pub returns-in_err-n : goal.returns-in_err-n
+returns-in_err-n c = rw c.from_residual.ensures (search (number_wrong, c.in_err-n.was))
 
 pub returns : goal.returns
-returns c = search number_found
+returns c = search (number_found, c.in_ok-n.was)

@@ -5,8 +5,8 @@ use Rattle.bdf_lines.proofs.values.row_of.Goals as goal
 pub returns-then-line-bytes : goal.returns-then-line-bytes
 returns-then-line-bytes c = search row_length
 
-pub returns-in_default : goal.returns-in_default
-returns-in_default c = search row_wrong
+pub returns-in_err-v : goal.returns-in_err-v
+returns-in_err-v c = rw c.from_residual.ensures (search (row_wrong, c.in_err-v.was))
 
 pub returns : goal.returns
-returns c = search row_bits_lem
+returns c = search (row_bits_lem, c.in_ok-v.was)

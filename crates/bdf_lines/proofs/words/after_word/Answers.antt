@@ -5,11 +5,11 @@ use Rattle.bdf_lines.proofs.words.after_word.Goals as goal
 pub returns-then-line-from : goal.returns-then-line-from
 returns-then-line-from c = search after_none
 
-pub slice_bounds-same-end : goal.slice_bounds-same-end
-slice_bounds-same-end c = search to_within
+pub slice_bounds-word-end : goal.slice_bounds-word-end
+slice_bounds-word-end c = search to_within
 
-pub returns-then-same : goal.returns-then-same
-returns-then-same c = search after_found
+pub returns-then-eq : goal.returns-then-eq
+returns-then-eq c = search after_found
 
 pub returns : goal.returns
 returns c = search after_other
