@@ -194,21 +194,26 @@ all-put bits end j xs row p h =
 
 module _ (left end bits j : ℕ) (xs row : List ℕ) (f : BitsFit left end bits (length xs)) (p : BitsPut left end bits j xs row) where
   -- all of byte j
-  pub bits_step : 8 * j + 8 ≤ end → BitsPut left end bits (j + 1) xs (set row j (bit_or (get_or row j 0) (bits / 2 ^ (end - (8 * j + 8)) % 256)))
+  pub bits_step : j < end / 8 → BitsPut left end bits (j + 1) xs (set row j (bit_or (get_or row j 0) (bits / 2 ^ (end - (8 * j + 8)) % 256)))
   unfolding with_bits bits_in
   bits_step h = record {
-    put = row_step (with_bits bits end) j _ xs row p.put (omega arith) (rw (le-leb (8 * j + 8) end h));
+    put = row_step (with_bits bits end) j _ xs row p.put (omega arith) (rw (le-leb (8 * j + 8) end (omega arith)));
     begun = omega arith;
   }
 
-  -- the bits end before byte j
-  pub bits_end : end ≤ 8 * j → row ≡ map_indexed (with_bits bits end) 0 xs
-  bits_end h = all-put bits end j xs row p.put h
+  module _ (past : end / 8 ≤ j) (last : left / 8 ≤ end / 8 → j ≤ end / 8) where
+    -- the bits end before byte j
+    pub bits_end : end % 8 ≡ 0 → row ≡ map_indexed (with_bits bits end) 0 xs
+    bits_end h = all-put bits end j xs row p.put (omega arith)
 
-  -- the rest of the bits, in byte j
-  pub bits_last : 8 * j < end → end < 8 * j + 8 → set row j (bit_or (get_or row j 0) (bits * 2 ^ (8 * j + 8 - end) % 2 ^ 64 % 256)) ≡ map_indexed (with_bits bits end) 0 xs
-  unfolding with_bits bits_in
-  bits_last h l =
-      let q : FirstPainted (with_bits bits end) 0 (j + 1) xs (set row j (bit_or (get_or row j 0) (bits * 2 ^ (8 * j + 8 - end) % 2 ^ 64 % 256))) =
-      row_step (with_bits bits end) j _ xs row p.put (omega arith) (rw (lt-leb (8 * j + 8) end l, mod-mod-pow (bits * 2 ^ (8 * j + 8 - end)) 56 8)) in
-      all-put bits end (j + 1) xs _ q (omega arith)
+    -- the rest of the bits, in byte j
+    pub bits_last : (end % 8 ≡ 0 → ⊥) → set row (end / 8) (bit_or (get_or row (end / 8) 0) (bits * 2 ^ (8 - end % 8) % 2 ^ 64 % 256)) ≡ map_indexed (with_bits bits end) 0 xs
+    unfolding with_bits bits_in
+    bits_last h =
+        let here : end / 8 ≡ j = omega (arith, f.ordered) in
+        let shift : 8 - end % 8 ≡ 8 * j + 8 - end = omega (arith, f.ordered) in
+        let some : 8 * j < end = omega (arith, f.ordered) in
+        let rest : end < 8 * j + 8 = omega (arith, f.ordered) in
+        let q : FirstPainted (with_bits bits end) 0 (j + 1) xs (set row j (bit_or (get_or row j 0) (bits * 2 ^ (8 * j + 8 - end) % 2 ^ 64 % 256))) =
+        row_step (with_bits bits end) j _ xs row p.put (omega (arith, f.within)) (rw (lt-leb (8 * j + 8) end rest, mod-mod-pow (bits * 2 ^ (8 * j + 8 - end)) 56 8)) in
+        rw (shift, here) (all-put bits end (j + 1) xs _ q (omega arith))

@@ -11,36 +11,21 @@ use mir.Syntax.{w32, w64}
 use mir.Val.{Fits}
 use borrow.Author.Tests.{le-leb, lt-leb}
 use borrow.Rule.Slice.PartMut.{put_mid, post_of}
-use Rattle.characters.specs.Refusal.{or_else, unless_refused}
+use Rattle.characters.specs.Refusal.{unless_refused}
 use Rattle.bdf.specs.declared.reader.Reader.{Reader}
-use Rattle.bdf.specs.declared.file.Measured.{Measured}
-use Rattle.bdf.specs.declared.file.Measured.TheVariants as measure
-use Rattle.bdf.specs.declared.Outcome.{Outcome}
-use Rattle.bdf.specs.declared.Outcome.TheVariants.{Refused, Written}
+use Rattle.std.specs.Prelude.{Result, Ok, Err}
+use Rattle.refusals.specs.declared.Refusal.{Refusal}
+use Rattle.refusals.specs.declared.Refusal.TheVariants.{OutputTooShort}
+use Rattle.refusals.specs.Numbers.{number, refusal_of}
+use Rattle.refusals.proofs.Numbers.{not_zero}
 use Rattle.bdf.specs.Reader.{start, first_refusal, last_reader, file_lines}
-use Rattle.bdf.specs.Font.{atlas_size, font_of, atlas_of, mapping_of, record_of, font_bytes, refusal, read_code, outcome_of, outcome, written}
+use Rattle.bdf.specs.Font.{atlas_size, font_of, atlas_of, mapping_of, record_of, font_bytes, read_code, written}
 use Rattle.bdf.specs.Writing.{GoodCell, put_lines}
 use Rattle.bdf.specs.Within.{Within}
-use Rattle.bdf.specs.Walk.{lines_from, measured_of, measured, put_lines_if, Room, IsMeasured}
+use Rattle.bdf.specs.Walk.{lines_from, Measured, put_lines_if, Room, IsMeasured}
 use Rattle.bdf.proofs.Invariant.{within-start, within_last}
-use Rattle.bdf.proofs.Walks.{not_refused}
+use Rattle.bdf.proofs.Walks.{or_first}
 use Rattle.bdf.proofs.Written.{font-written, font-length, record_right}
-
-good_of : Measured → Reader
-good_of (measure.Good r) = r
-good_of (measure.Refused n) = start
-
-refused_of : Measured → ℕ
-refused_of (measure.Good r) = 0
-refused_of (measure.Refused n) = n
-
-good_injective : (r s : Reader) → measure.Good r ≡ measure.Good s → r ≡ s
-unfolding good_of
-good_injective r s e = ap good_of e
-
-refused_injective : (n k : ℕ) → measure.Refused n ≡ measure.Refused k → n ≡ k
-unfolding refused_of
-refused_injective n k e = ap refused_of e
 
 -- ---- what was measured
 
@@ -175,9 +160,8 @@ module _ (file : List ℕ) (last : Reader) (m : IsMeasured file last) (size : �
     unfolding read_code
     short-code = rw (m.good, length-font, lt-leb (28 + size + last.mapping) (length output) h)
 
-    pub short_outcome : Refused 17 ≡ outcome file (length output)
-    unfolding outcome
-    short_outcome = rw short-code
+    pub short_refused : number OutputTooShort ≡ read_code file (length output)
+    short_refused = sym short-code
 
     pub short_kept : output ≡ written file output
     unfolding written
@@ -188,9 +172,11 @@ module _ (file : List ℕ) (last : Reader) (m : IsMeasured file last) (size : �
     unfolding read_code
     good-code = rw (m.good, length-font, le-leb (28 + size + last.mapping) (length output) h)
 
-    pub good_outcome : Written (28 + size + last.mapping) ≡ outcome file (length output)
-    unfolding outcome
-    good_outcome = rw (good-code, length-font)
+    pub good_accepted : 0 ≡ read_code file (length output)
+    good_accepted = sym good-code
+
+    pub good_length : 28 + size + last.mapping ≡ length (font_bytes (font_of file))
+    good_length = sym length-font
 
     pub good_written : (font : List ℕ) → font ≡ font_bytes (font_of file) → font ++ post_of 0 (28 + size + last.mapping - 0) output ≡ written file output
     unfolding written
@@ -201,39 +187,22 @@ module _ (file : List ℕ) (last : Reader) (m : IsMeasured file last) (size : �
 
 -- ---- the file as it was measured
 
-module _ (file : List ℕ) (x : Measured) (q : x ≡ measured start (lines_from file 0)) where
-  pub measured_is : (last : Reader) → x ≡ measure.Good last → IsMeasured file last
-  unfolding measured lines_from file_lines
-  measured_is last e = go (refusal file) refl (sym e ∙ q)
-    where
-      go : (n : ℕ) → refusal file ≡ n → measure.Good last ≡ measured_of n (last_reader start (file_lines file)) → IsMeasured file last
-      go zero r t = record { good = r; last_is = good_injective last _ t }
-      go (suc n) r t = absurd (not_refused _ (suc n) t refl)
+module _ (file : List ℕ) (x : Result Reader Refusal) (m : Measured x start (lines_from file 0)) where
+  pub measured_is : (last : Reader) → x ≡ Ok last → IsMeasured file last
+  unfolding lines_from file_lines
+  measured_is last e = record { good = sym m.code ∙ ap refusal_of e; last_is = m.last last e }
 
-  module _ (n : ℕ) (e : x ≡ measure.Refused n) where
-    refused-is : (size : ℕ) → (or_else (refusal file) size ≡ n) × (n ≡ 0 → ⊥)
-    unfolding measured lines_from file_lines
-    refused-is size = go (refusal file) (sym e ∙ q)
-      where
-        go : (k : ℕ) → measure.Refused n ≡ measured_of k (last_reader start (file_lines file)) → (or_else k size ≡ n) × (n ≡ 0 → ⊥)
-        go zero t = absurd (not_refused _ n (sym t) refl)
-        go (suc k) t = let r = refused_injective n (suc k) t in (sym r, λ z. absurd (omega arith))
+  module _ (n : Refusal) (e : x ≡ Err n) where
+    refused-code : (k : ℕ) → read_code file k ≡ number n
+    unfolding read_code lines_from file_lines
+    refused-code k = rw (sym m.code ∙ ap refusal_of e) (or_first (number n) _ (not_zero n))
 
-    refused-code : (k : ℕ) → (read_code file k ≡ n) × (n ≡ 0 → ⊥)
-    unfolding read_code
-    refused-code k = refused-is _
-
-    pub file_refused : (k : ℕ) → Refused n ≡ outcome file k
-    unfolding outcome
-    file_refused k = let r = refused-code k in go n r.1 r.0
-      where
-        go : (c : ℕ) → (c ≡ 0 → ⊥) → read_code file k ≡ c → Refused c ≡ outcome_of (read_code file k) (length (font_bytes (font_of file)))
-        go zero z t = absurd (z refl)
-        go (suc c) z t = rw t
+    pub file_refused : (k : ℕ) → number n ≡ read_code file k
+    file_refused k = sym (refused-code k)
 
     pub file_kept : (output part : List ℕ) → part ≡ [] → part ++ output ≡ written file output
     unfolding written
-    file_kept output part p = let r = refused-code (length output) in rw p (go n r.1 r.0)
+    file_kept output part p = rw p (go (number n) (not_zero n) (refused-code (length output)))
       where
         go : (c : ℕ) → (c ≡ 0 → ⊥) → read_code file (length output) ≡ c
             → output ≡ unless_refused (read_code file (length output)) (font_bytes (font_of file) ++ drop (length (font_bytes (font_of file))) output) output
@@ -249,8 +218,8 @@ nothing_good n t = absurd (true≢false (sym t))
 
 -- and the output is as it was
 module _ (file output part : List ℕ) (p : part ≡ []) where
-  pub outcome_kept : (x : Outcome) → x ≡ outcome file (length (part ++ output)) → x ≡ outcome file (length output)
-  outcome_kept x q = rw p at q
+  pub code_kept : (k : ℕ) → k ≡ read_code file (length (part ++ output)) → k ≡ read_code file (length output)
+  code_kept k q = rw p at q
 
   pub written_kept : (exit : List ℕ) → exit ≡ written file (part ++ output) → exit ≡ written file output
   written_kept exit q = rw p at q

@@ -10,6 +10,8 @@ use lib.ListN.{length, get_or, length-append}
 use lib.Dec.{leb}
 use lib.Pow.{pow_pos}
 use Rattle.characters.specs.Utf8.{is_surrogate}
+use Rattle.std.specs.Prelude.{Result}
+use Rattle.refusals.specs.declared.Refusal.{Refusal}
 use Rattle.bdf.specs.declared.reader.BoundingBox.{BoundingBox}
 use Rattle.bdf.specs.declared.reader.Expected.{Expected}
 use Rattle.bdf.specs.declared.reader.Expected.TheVariants.{Properties, Swidth, Bbx, Rows}
@@ -35,7 +37,7 @@ module _ (P : ℕ → ℕ → ℕ → Reader → List Glyph → Type 0) (none : 
   Holds r last rest = P r.glyphs r.mapping r.least last rest.glyphs
 
   -- over a line
-  back-over : (r : Reader) (a : Answer) (last : Reader) (rest : Rest) → Turn r a → Holds (after r a) last rest → Holds r last (gather r a rest)
+  back-over : (r : Reader) (a : Result Answer Refusal) (last : Reader) (rest : Rest) → Turn r a → Holds (after r a) last rest → Holds r last (gather r a rest)
   unfolding gather
   back-over r a last rest (refused n) h = h
   back-over r a last rest (passed e n f) h = h
@@ -102,7 +104,7 @@ small_more k bits rows h s zero = h
 small_more k bits rows h s (suc m) = s m
 
 -- over a line
-gathered_turn : (r : Reader) (a : Answer) (last : Reader) (rest : Rest) → Turn r a → Within r → Gathered (after r a) last rest → Gathered r last (gather r a rest)
+gathered_turn : (r : Reader) (a : Result Answer Refusal) (last : Reader) (rest : Rest) → Turn r a → Within r → Gathered (after r a) last rest → Gathered r last (gather r a rest)
 unfolding gather GoodGlyphs
 gathered_turn r a last rest (refused n) w g = g
 gathered_turn r a last rest (passed e n f) w g = record {

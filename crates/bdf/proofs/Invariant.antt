@@ -7,6 +7,8 @@ use mathlib.Core.Bool.{Bool, true, false, cond}
 use mathlib.Core.List.{List, [], ◌∷◌}
 use lib.ListN.{length}
 use lib.Dec.{ltb, eqb}
+use Rattle.std.specs.Prelude.{Result}
+use Rattle.refusals.specs.declared.Refusal.{Refusal}
 use Rattle.bdf.specs.declared.reader.Expected.TheVariants.{Swidth, Rows}
 use Rattle.bdf.specs.declared.reader.Reader.{Reader}
 use Rattle.bdf.specs.declared.reader.Answer.{Answer}
@@ -51,7 +53,7 @@ read_few r w a b = go (dec_lt (order r.expected) 14)
     go (no h) = w.few (omega arith)
 
 -- after an answer of each form
-within_turn : (r : Reader) (a : Answer) → Turn r a → Within r → Within (after r a)
+within_turn : (r : Reader) (a : Result Answer Refusal) → Turn r a → Within r → Within (after r a)
 within_turn r a (refused n) w = w
 within_turn r a (passed e n f) w = record {
   good_cell = w.good_cell;

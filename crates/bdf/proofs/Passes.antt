@@ -2,55 +2,60 @@
 use Prim.Native.Nat.{ℕ, ◌+◌, ◌-◌, ◌≤◌, ◌<◌}
 use native.Mathlib.Omega.{arith}
 use native.Mathlib.Decide.{dec_lt}
-use mathlib.Core.Path.{◌≡◌, refl, sym, ◌∙◌}
+use mathlib.Core.Path.{◌≡◌, refl, sym, ap, ◌∙◌}
 use mathlib.Core.Bool.{Bool, true}
 use mathlib.Core.List.{List, []}
 use lib.ListN.{length, drop}
 use Rattle.characters.specs.Lines.{line_length}
+use Rattle.std.specs.Prelude.{Result, Ok, Err}
+use Rattle.refusals.specs.declared.Refusal.{Refusal}
+use Rattle.refusals.specs.Numbers.{number, refusal_of}
 use Rattle.bdf_lines.specs.Forms.{line_at}
 use Rattle.bdf.specs.declared.reader.Reader.{Reader}
 use Rattle.bdf.specs.declared.reader.Answer.{Answer}
-use Rattle.bdf.specs.declared.file.Turned.{Turned}
-use Rattle.bdf.specs.declared.file.Measured.{Measured}
-use Rattle.bdf.specs.declared.file.Measured.TheVariants.{Refused}
-use Rattle.bdf.specs.Reader.{start, step, refusal_of, after, first_refusal, last_reader}
+use Rattle.bdf.specs.Reader.{start, step, reader_of, after, first_refusal, last_reader}
 use Rattle.bdf.specs.Within.{Within}
-use Rattle.bdf.specs.Walk.{lines_from, measured, put_if, put_lines_if, Room, Carries, LineOver, AnswerFits}
+use Rattle.bdf.specs.Walk.{lines_from, Measured, put_if, put_lines_if, Room, Carries, LineOver, AnswerFits}
 use Rattle.bdf.proofs.Invariant.{within-start}
-use Rattle.bdf.proofs.Walks.{lines_from_more, lines_from_last, carries_none, carries_on, carries_line, measured_end, put_end, measured-refusal, put_kept, room_kept}
+use Rattle.bdf.proofs.Walks.{not_ok, ok_is, err_is, lines_from_more, lines_from_last, carries_none, carries_on, carries_line, last_line, line-refusal, put_kept, room_kept}
 use Rattle.bdf.proofs.Strips.{answer_fits}
 
 -- ---- one line
 
-module _ (file : List ℕ) (w : Bool) (size : ℕ) (r : Reader) (at : ℕ) (out : List ℕ) (i : Within r) (h : at ≤ length file) (a : Answer) (end : ℕ)
+module _ (file : List ℕ) (w : Bool) (size : ℕ) (r : Reader) (at : ℕ) (out : List ℕ) (i : Within r) (h : at ≤ length file) (a : Result Answer Refusal) (end : ℕ)
     (e : a ≡ step r (line_at file at)) (f : end ≡ at + line_length (drop at file)) where
   none : Carries file w size r at out r at out
   none = carries_none file w size r at out i h
 
-  pub line_fits : Room w (last_reader r (lines_from file at)) size (length out) → AnswerFits w size r a (length out)
-  line_fits m = go (dec_lt end (length file))
+  pub line_fits : Room w (last_reader r (lines_from file at)) size (length out) → (b : Answer) → a ≡ Ok b → AnswerFits w size r (Ok b) (length out)
+  line_fits m b q = rw q at (go (dec_lt end (length file)))
     where
       go : Dec (end < length file) → AnswerFits w size r a (length out)
       go (yes l) = answer_fits w r _ size (length out) i (line_at file at) a e (rw (lines_from_more file at end h f l) at m)
       go (no l) = answer_fits w r _ size (length out) i (line_at file at) a e (rw (lines_from_last file at end h f (omega arith)) at m)
 
-  module _ (n : ℕ) (q : n ≡ refusal_of a) where
-    pub line_refused : (n ≡ 0 → ⊥) → LineOver file w size r at out (record { code = n; reader = r; end = end }) out
-    line_refused z = record {
-      onward = omega arith;
-      refused = λ y. (measured-refusal file w size r at out r at out none a end e f n q z, refl);
-      more = λ y. absurd (z y);
-      last = λ y. absurd (z y);
-    }
+  pub line_refused : (n : Refusal) → a ≡ Err n → LineOver file w size r at out (Err n) out
+  line_refused n q = record {
+    refused = λ k o. rw (← err_is n k o) (line-refusal file w size r at out r at out none a end e f n q, refl);
+    onward = λ t to o. absurd (not_ok o);
+    more = λ t to o. absurd (not_ok o);
+    last = λ t to o. absurd (not_ok o);
+  }
 
-    pub line_over : n ≡ 0 → (t : Reader) (exit : List ℕ) → t ≡ after r a → exit ≡ put_if w size r a out → length exit ≡ length out
-        → LineOver file w size r at out (record { code = 0; reader = t; end = end }) exit
-    line_over z t exit p k m = record {
-      onward = omega arith;
-      refused = λ y. absurd (y refl);
-      more = λ y l. carries_line file w size r at out r at out none a end e f l (sym q ∙ z) t exit p k m;
-      last = λ y l. (measured_end file w size r at out r at out none a end e f l (sym q ∙ z) t (measured t []) p refl, put_end file w size r at out r at out none a end e f l exit k);
-    }
+  pub line_over : (b : Answer) → a ≡ Ok b → (t : Reader) (exit : List ℕ) → t ≡ reader_of b → exit ≡ put_if w size r (Ok b) out → length exit ≡ length out
+      → LineOver file w size r at out (Ok (t, end)) exit
+  line_over b q t exit p k m =
+      let over : (s : Reader) (to : ℕ) → ◌≡◌ {A = Result (Reader × ℕ) Refusal} (Ok (t, end)) (Ok (s, to)) → (t ≡ s) × (end ≡ to)
+      = λ s to o. let pair = ok_is (t, end) (s, to) o in (ap (λ (x : Reader × ℕ). x.0) pair, ap (λ (x : Reader × ℕ). x.1) pair) in
+      let z : refusal_of a ≡ 0 = rw q in
+      let u : t ≡ after r a = rw q p in
+      let v : exit ≡ put_if w size r a out = rw q k in
+      record {
+        refused = λ n o. absurd (not_ok (sym o));
+        onward = λ s to o. let x = over s to o in rw (← x.1) (omega arith);
+        more = λ s to o. let x = over s to o in rw (← x.0, ← x.1) (λ l. carries_line file w size r at out r at out none a end e f l z t exit u v m);
+        last = λ s to o. let x = over s to o in rw (← x.0, ← x.1) (λ l. last_line file w size r at out r at out none a end e f l z t exit u v);
+      }
 
 -- ---- all lines
 
@@ -84,25 +89,34 @@ module _ (file : List ℕ) (w : Bool) (size : ℕ) (out : List ℕ) where
     pub pass_length : (exit : List ℕ) → length exit ≡ length mid → length exit ≡ length out
     pass_length exit m = m ∙ both.carries.same_length
 
-    module _ (x : Turned) (exit : List ℕ) (l : LineOver file w size s from mid x exit) where
-      module _ (z : x.code ≡ 0 → ⊥) where
-        pub pass_refused : Refused x.code ≡ measured start (lines_from file 0)
-        pass_refused = (l.refused z).0 ∙ both.carries.same_measure
+    module _ (x : Result (Reader × ℕ) Refusal) (exit : List ℕ) (l : LineOver file w size s from mid x exit) where
+      module _ (n : Refusal) (z : x ≡ Err n) where
+        refused-code : number n ≡ first_refusal start (lines_from file 0)
+        refused-code = (l.refused n z).0 ∙ both.carries.same_refusal
+
+        pub pass_refused : Measured (Err n) start (lines_from file 0)
+        pass_refused = record { code = refused-code; last = λ t o. absurd (not_ok o) }
 
         -- a file that is written has no such line
         pub pass_kept : exit ≡ put_lines_if w size start (lines_from file 0) out
-        pass_kept = (l.refused z).1 ∙ put_kept file w size start 0 out s from mid both.carries both.good x.code (sym pass_refused)
+        pass_kept = (l.refused n z).1 ∙ put_kept file w size start 0 out s from mid both.carries both.good n refused-code
 
-      module _ (z : x.code ≡ 0) where
-        pub pass_on : x.end < length file → (to : ℕ) → to ≡ x.end + 1 → Passing file w size out x.reader to exit
-        pass_on h to q = rw q (passing_on s from mid both x.reader (x.end + 1) exit (l.more z h))
+      module _ (t : Reader) (end : ℕ) (z : x ≡ Ok (t, end)) where
+        pub pass_on : end < length file → Passing file w size out t (end + 1) exit
+        pass_on h = passing_on s from mid both t (end + 1) exit (l.more t end z h)
 
-        module _ (h : length file ≤ x.end) where
-          pub pass_end : (y : Measured) → y ≡ measured x.reader [] → y ≡ measured start (lines_from file 0)
-          pass_end y m = m ∙ (l.last z h).0 ∙ both.carries.same_measure
+        module _ (h : length file ≤ end) where
+          pub pass_end : (y : Result Reader Refusal) → Measured y t [] → Measured y start (lines_from file 0)
+          unfolding last_reader
+          pass_end y m =
+              let over = l.last t end z h in
+              record {
+                code = m.code ∙ over.same_refusal ∙ both.carries.same_refusal;
+                last = λ u o. m.last u o ∙ over.same_last ∙ both.carries.same_last;
+              }
 
           pub pass_put : exit ≡ put_lines_if w size start (lines_from file 0) out
-          pass_put = (l.last z h).1 ∙ both.carries.same-put
+          pass_put = (l.last t end z h).put_whole ∙ both.carries.same-put
 
-      pub pass_less : x.end < length file → (to : ℕ) → to ≡ x.end + 1 → length file - to < length file - at
-      pass_less h to q = omega (arith, d.onward, l.onward)
+        pub pass_less : end < length file → length file - (end + 1) < length file - at
+        pass_less h = omega (arith, d.onward, l.onward t end z)

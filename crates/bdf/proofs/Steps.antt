@@ -11,21 +11,17 @@ use mir.Val.{Fits}
 use borrow.Author.Tests.{not-true, not-false, leb-true, leb-false, lt-ltb, le-ltb, le-leb, lt-leb, eq-eqb, ne_eqb}
 use Rattle.characters.specs.Utf8.{is_surrogate}
 use Rattle.characters.proofs.Refusals.{all_true}
-use Rattle.bdf_lines.specs.declared.values.Number.{Number}
-use Rattle.bdf_lines.specs.declared.values.Read.{Read}
-use Rattle.bdf_lines.specs.declared.values.Read.TheVariants as read
-use Rattle.bdf_lines.specs.declared.values.Count.{Count}
-use Rattle.bdf_lines.specs.declared.values.Count.TheVariants as count
+use Rattle.std.specs.Prelude.{Option, Some, None, Result, Ok, Err}
+use Rattle.refusals.specs.declared.Refusal.{Refusal}
+use Rattle.refusals.specs.declared.Refusal.TheVariants.{BdfLine, BdfLimit, BdfEncoding}
 use Rattle.bdf_lines.specs.declared.values.Four.{Four}
-use Rattle.bdf_lines.specs.declared.values.Four.TheVariants as four
-use Rattle.bdf_lines.specs.declared.values.Row.{Row}
-use Rattle.bdf_lines.specs.declared.values.Row.TheVariants as row
+use Rattle.bdf.specs.declared.reader.Answer.TheVariants.{Passed, Boxed, Encoded, Drawn}
+use Rattle.bdf_lines.specs.declared.values.Number.{Number}
 use Rattle.bdf.specs.declared.reader.BoundingBox.{BoundingBox}
 use Rattle.bdf.specs.declared.reader.Expected.{Expected}
-use Rattle.bdf.specs.declared.reader.Expected.TheVariants.{Property, Chars, Glyph, Encoding, Swidth, Attributes, Bitmap, Rows, Nothing}
+use Rattle.bdf.specs.declared.reader.Expected.TheVariants.{StartFont, Font, Size, FontBoundingBox, Properties, Property, Chars, Glyph, Encoding, Swidth, Dwidth, Bbx, Attributes, Bitmap, Rows, Nothing}
 use Rattle.bdf.specs.declared.reader.Reader.{Reader}
 use Rattle.bdf.specs.declared.reader.Answer.{Answer}
-use Rattle.bdf.specs.declared.reader.Answer.TheVariants.{Refused, Passed, Boxed, Encoded, Drawn}
 use Rattle.bdf.specs.Reader.{origin, place, box, baseline, cell_tests, is_cell, box_tests, is_in_cell, is_character, utf8, spelling, expecting, leaving, moved, counted, with_cell, cell_line, properties_line, spelling_line, encoding_line, with_bbx, bbx_line, with_row, row_line, line_step, order, in_bitmap, step}
 use Rattle.bdf_lines.specs.Words.{words, is_alone, is_named, is_comment, is_hex_pair, row_of}
 use Rattle.bdf_lines.specs.Keywords as word
@@ -58,24 +54,24 @@ pub ruleset chain = (and_next, and_stop, and_last, not_off, not_on, le-leb, lt-l
 -- ---- lines
 
 module _ (e : Expected) (r s : Reader) where
-  pub moved_good : (good : Bool) → good ≡ true → s ≡ expecting e r → Passed s ≡ moved good e r
+  pub moved_good : (good : Bool) → good ≡ true → s ≡ expecting e r → Ok (Passed s) ≡ moved good e r
   moved_good good t q = rw (t, q)
 
-  pub moved_bad : (good : Bool) → good ≡ false → Refused 19 ≡ moved good e r
+  pub moved_bad : (good : Bool) → good ≡ false → Err BdfLine ≡ moved good e r
   moved_bad good t = rw t
 
-  pub counted_of : (x : Count) (n : ℕ) → x ≡ count.Of n → s ≡ leaving e n r → Passed s ≡ counted x e r
+  pub counted_of : (x : Option ℕ) (n : ℕ) → x ≡ Some n → s ≡ leaving e n r → Ok (Passed s) ≡ counted x e r
   counted_of x n t q = rw (t, q)
 
-  pub counted_wrong : (x : Count) → x ≡ count.Wrong → Refused 19 ≡ counted x e r
+  pub counted_wrong : (x : Option ℕ) → x ≡ None → Err BdfLine ≡ counted x e r
   counted_wrong x t = rw t
 
-module _ (r s : Reader) (x y z : Count) (e : z ≡ x) where
-  pub properties_of : (n : ℕ) → z ≡ count.Of n → s ≡ leaving Property n r → Passed s ≡ properties_line x y r
+module _ (r s : Reader) (x y z : Option ℕ) (e : z ≡ x) where
+  pub properties_of : (n : ℕ) → z ≡ Some n → s ≡ leaving Property n r → Ok (Passed s) ≡ properties_line x y r
   unfolding properties_line
   properties_of n t q = rw (← e, t, q)
 
-  pub properties_else : (a : Answer) (v : Count) → z ≡ count.Wrong → v ≡ y → a ≡ counted v Glyph r → a ≡ properties_line x y r
+  pub properties_else : (a : Result Answer Refusal) (v : Option ℕ) → z ≡ None → v ≡ y → a ≡ counted v Glyph r → a ≡ properties_line x y r
   unfolding properties_line
   properties_else a v t f q = rw (← e, t, ← f) q
 
@@ -197,40 +193,40 @@ module _ (w h x y : Number) (t : Bool) (o : not t ≡ false) where
 
 -- ---- FONTBOUNDINGBOX and BBX
 
-module _ (z : Four) (r : Reader) where
-  pub cell_wrong : z ≡ four.Wrong → Refused 19 ≡ cell_line z r
+module _ (z : Option Four) (r : Reader) where
+  pub cell_wrong : z ≡ None → Err BdfLine ≡ cell_line z r
   unfolding cell_line
   cell_wrong e = rw e
 
-  pub box_wrong : z ≡ four.Wrong → Refused 19 ≡ bbx_line z r
+  pub box_wrong : z ≡ None → Err BdfLine ≡ bbx_line z r
   unfolding bbx_line
   box_wrong e = rw e
 
-  module _ (w h x y : Number) (e : z ≡ four.Numbers w h x y) (t : Bool) where
-    pub cell_bad : t ≡ is_cell w h x y → not t ≡ true → Refused 20 ≡ cell_line z r
+  module _ (f : Four) (e : z ≡ Some f) (t : Bool) where
+    pub cell_bad : t ≡ is_cell f.width f.height f.x f.y → not t ≡ true → Err BdfLimit ≡ cell_line z r
     unfolding cell_line
     cell_bad q o = rw (e, ← q, not-true t o)
 
-    pub cell_passed : t ≡ is_cell w h x y → not t ≡ false → (b : BoundingBox) → b ≡ box w h x y → Passed (with_cell b r) ≡ cell_line z r
+    pub cell_passed : t ≡ is_cell f.width f.height f.x f.y → not t ≡ false → (b : BoundingBox) → b ≡ box f.width f.height f.x f.y → Ok (Passed (with_cell b r)) ≡ cell_line z r
     unfolding cell_line
     cell_passed q o b p = rw (e, ← q, not-false t o, p)
 
-    pub box_bad : t ≡ is_in_cell r.cell w h x y → not t ≡ true → Refused 20 ≡ bbx_line z r
+    pub box_bad : t ≡ is_in_cell r.cell f.width f.height f.x f.y → not t ≡ true → Err BdfLimit ≡ bbx_line z r
     unfolding bbx_line
     box_bad q o = rw (e, ← q, not-true t o)
 
-    pub box_passed : t ≡ is_in_cell r.cell w h x y → not t ≡ false → (b : BoundingBox) → b ≡ box w h x y → Boxed (with_bbx b r) ≡ bbx_line z r
+    pub box_passed : t ≡ is_in_cell r.cell f.width f.height f.x f.y → not t ≡ false → (b : BoundingBox) → b ≡ box f.width f.height f.x f.y → Ok (Boxed (with_bbx b r)) ≡ bbx_line z r
     unfolding bbx_line
     box_passed q o b p = rw (e, ← q, not-false t o, p)
 
 -- ---- bitmap lines
 
-module _ (z : Row) (r : Reader) where
-  pub row_wrong : z ≡ row.Wrong → Refused 19 ≡ row_line z r
+module _ (z : Option ℕ) (r : Reader) where
+  pub row_wrong : z ≡ None → Err BdfLine ≡ row_line z r
   unfolding row_line
   row_wrong e = rw e
 
-  pub row_drawn : (bits : ℕ) → z ≡ row.Bits bits → Drawn (with_row r) bits ≡ row_line z r
+  pub row_drawn : (bits : ℕ) → z ≡ Some bits → Ok (Drawn (with_row r) bits) ≡ row_line z r
   unfolding row_line
   row_drawn bits e = rw e
 
@@ -259,31 +255,31 @@ module _ (n : Number) where
       go false true e f = leb-true _ _ e
       go false false e f = absurd (false≢true f)
 
-module _ (z : Read) (r : Reader) where
-  pub encoding_wrong : z ≡ read.Wrong → Refused 19 ≡ encoding_line z r
+module _ (z : Option Number) (r : Reader) where
+  pub encoding_wrong : z ≡ None → Err BdfLine ≡ encoding_line z r
   unfolding encoding_line
   encoding_wrong e = rw e
 
-  module _ (n : Number) (e : z ≡ read.Value n) (t : Bool) (q : t ≡ is_character n) where
-    pub encoding_bad : not t ≡ true → Refused 21 ≡ encoding_line z r
+  module _ (n : Number) (e : z ≡ Some n) (t : Bool) (q : t ≡ is_character n) where
+    pub encoding_bad : not t ≡ true → Err BdfEncoding ≡ encoding_line z r
     unfolding encoding_line
     encoding_bad o = rw (e, ← q, not-true t o)
 
     module _ (o : not t ≡ false) where
-      pub encoding_falls : n.size < r.least → Refused 21 ≡ encoding_line z r
+      pub encoding_falls : n.size < r.least → Err BdfEncoding ≡ encoding_line z r
       unfolding encoding_line
       encoding_falls h = rw (e, ← q, not-false t o, lt-leb r.least n.size h)
 
-      pub encoding_passed : r.least ≤ n.size → (a : Answer) → a ≡ spelling_line n.size r → a ≡ encoding_line z r
+      pub encoding_passed : r.least ≤ n.size → (a : Result Answer Refusal) → a ≡ spelling_line n.size r → a ≡ encoding_line z r
       unfolding encoding_line
       encoding_passed h a f = rw (e, ← q, not-false t o, le-leb r.least n.size h) f
 
 module _ (v m : ℕ) (r : Reader) (k : m ≡ length (spelling v)) where
-  pub spelling_long : 65_535 < r.mapping + m → Refused 20 ≡ spelling_line v r
+  pub spelling_long : 65_535 < r.mapping + m → Err BdfLimit ≡ spelling_line v r
   unfolding spelling_line
   spelling_long h = rw (← k, lt-leb (r.mapping + m) 65_535 h)
 
-  pub spelling_passed : r.mapping + m ≤ 65_535 → Encoded (record {
+  pub spelling_passed : r.mapping + m ≤ 65_535 → Ok (Encoded (record {
     expected = Swidth;
     left = r.left;
     cell = r.cell;
@@ -292,7 +288,7 @@ module _ (v m : ℕ) (r : Reader) (k : m ≡ length (spelling v)) where
     mapping = r.mapping + m;
     least = v + 1;
     read = 0;
-  }) v ≡ spelling_line v r
+  }) v) ≡ spelling_line v r
   unfolding spelling_line
   spelling_passed h = rw (← k, le-leb (r.mapping + m) 65_535 h)
 
@@ -326,7 +322,7 @@ character-fits n t q o = omega (arith, character_small n t q o)
 -- ---- lines that go by a number or a test
 
 module _ (r : Reader) (l : List ℕ) (ws : List (List ℕ)) where
-  module _ (t : Bool) (a : Answer) where
+  module _ (t : Bool) (a : Result Answer Refusal) where
     pub property_none : r.left ≡ 0 → t ≡ is_alone word.end_properties ws → a ≡ moved t Chars r → a ≡ line_step Property r l ws
     unfolding line_step
     property_none z e q = rw (eq-eqb r.left 0 z, ← e) q
@@ -347,16 +343,16 @@ module _ (r : Reader) (l : List ℕ) (ws : List (List ℕ)) where
     unfolding line_step
     bitmap_done h e q = rw (le-ltb r.read r.bbx.height h, ← e) q
 
-  pub bitmap_row : r.read < r.bbx.height → (x : Row) (a : Answer) → x ≡ row_of r.bbx.width l → a ≡ row_line x r → a ≡ line_step Rows r l ws
+  pub bitmap_row : r.read < r.bbx.height → (x : Option ℕ) (a : Result Answer Refusal) → x ≡ row_of r.bbx.width l → a ≡ row_line x r → a ≡ line_step Rows r l ws
   unfolding line_step
   bitmap_row h x a e q = rw (lt-ltb r.read r.bbx.height h, ← e) q
 
   module _ (s : Reader) where
-    pub property_more : (r.left ≡ 0 → ⊥) → s ≡ leaving Property (r.left - 1) r → Passed s ≡ line_step Property r l ws
+    pub property_more : (r.left ≡ 0 → ⊥) → s ≡ leaving Property (r.left - 1) r → Ok (Passed s) ≡ line_step Property r l ws
     unfolding line_step
     property_more z q = rw (ne_eqb r.left 0 z, q)
 
-    pub attributes_is : (u : Bool) → u ≡ is_hex_pair word.attributes ws → u ≡ true → s ≡ expecting Bitmap r → Passed s ≡ line_step Attributes r l ws
+    pub attributes_is : (u : Bool) → u ≡ is_hex_pair word.attributes ws → u ≡ true → s ≡ expecting Bitmap r → Ok (Passed s) ≡ line_step Attributes r l ws
     unfolding line_step
     attributes_is u e o q = rw (← e, o, q)
 
@@ -370,41 +366,68 @@ module _ (r : Reader) (w : Within r) where
 
 -- ---- the line that is expected
 
-module _ (r : Reader) (l : List ℕ) (ws : List (List ℕ)) (x : Expected) (e : r.expected ≡ x) (a : Answer) where
+module _ (r : Reader) (l : List ℕ) (ws : List (List ℕ)) (x : Expected) (e : r.expected ≡ x) (a : Result Answer Refusal) where
   pub expected_is : a ≡ line_step x r l ws → a ≡ line_step r.expected r l ws
   expected_is q = q ∙ ap (λ (y : Expected). line_step y r l ws) (sym e)
 
   pub expected_word : (y : Expected) (t u : Bool) → t ≡ u → a ≡ moved t y r → moved u y r ≡ line_step x r l ws → a ≡ line_step r.expected r l ws
   expected_word y t u f q p = expected_is ((rw f at q) ∙ p)
 
-  pub expected_count : (y : Expected) (t u : Count) → t ≡ u → a ≡ counted t y r → counted u y r ≡ line_step x r l ws → a ≡ line_step r.expected r l ws
+  pub expected_count : (y : Expected) (t u : Option ℕ) → t ≡ u → a ≡ counted t y r → counted u y r ≡ line_step x r l ws → a ≡ line_step r.expected r l ws
   expected_count y t u f q p = expected_is ((rw f at q) ∙ p)
 
-  pub expected_cell : (t u : Four) → t ≡ u → a ≡ cell_line t r → cell_line u r ≡ line_step x r l ws → a ≡ line_step r.expected r l ws
+  pub expected_cell : (t u : Option Four) → t ≡ u → a ≡ cell_line t r → cell_line u r ≡ line_step x r l ws → a ≡ line_step r.expected r l ws
   expected_cell t u f q p = expected_is ((rw f at q) ∙ p)
 
-  pub expected_box : (t u : Four) → t ≡ u → a ≡ bbx_line t r → bbx_line u r ≡ line_step x r l ws → a ≡ line_step r.expected r l ws
+  pub expected_box : (t u : Option Four) → t ≡ u → a ≡ bbx_line t r → bbx_line u r ≡ line_step x r l ws → a ≡ line_step r.expected r l ws
   expected_box t u f q p = expected_is ((rw f at q) ∙ p)
 
-  pub expected_encoding : (t u : Read) → t ≡ u → a ≡ encoding_line t r → encoding_line u r ≡ line_step x r l ws → a ≡ line_step r.expected r l ws
+  pub expected_encoding : (t u : Option Number) → t ≡ u → a ≡ encoding_line t r → encoding_line u r ≡ line_step x r l ws → a ≡ line_step r.expected r l ws
   expected_encoding t u f q p = expected_is ((rw f at q) ∙ p)
 
 -- ---- COMMENT lines and blank ones
 
-pub order_is : (e x : Expected) (n : ℕ) → e ≡ x → n ≡ order x → n ≡ order e
-order_is e x n f q = rw f q
+by_order : ℕ → Expected
+by_order n =
+    get_or (StartFont ∷ Font ∷ Size ∷ FontBoundingBox ∷ Properties ∷ Property ∷ Chars ∷ Glyph ∷ Encoding ∷ Swidth ∷ Dwidth ∷ Bbx ∷ Attributes ∷ Bitmap ∷ Rows ∷ []) n Nothing
+
+by_order_lem : (e : Expected) → by_order (order e) ≡ e
+unfolding by_order
+by_order_lem StartFont = refl
+by_order_lem Font = refl
+by_order_lem Size = refl
+by_order_lem FontBoundingBox = refl
+by_order_lem Properties = refl
+by_order_lem Property = refl
+by_order_lem Chars = refl
+by_order_lem Glyph = refl
+by_order_lem Encoding = refl
+by_order_lem Swidth = refl
+by_order_lem Dwidth = refl
+by_order_lem Bbx = refl
+by_order_lem Attributes = refl
+by_order_lem Bitmap = refl
+by_order_lem Rows = refl
+by_order_lem Nothing = refl
+
+-- the line that is expected, by its number
+pub order_tells : (e x : Expected) (n : ℕ) → n ≡ order e → n ≡ order x → e ≡ x
+order_tells e x n p q = sym (by_order_lem e) ∙ ap by_order (sym p ∙ q) ∙ by_order_lem x
+
+pub rows_expected : (e : Expected) → order e ≡ 14 → e ≡ Rows
+rows_expected e p = order_tells e Rows 14 (sym p) refl
 
 module _ (r : Reader) where
-  pub no_bitmap : (n : ℕ) → n ≡ order r.expected → (n ≡ 14 → ⊥) → false ≡ in_bitmap r
+  pub no_bitmap : (r.expected ≡ Rows → ⊥) → false ≡ in_bitmap r
   unfolding in_bitmap
-  no_bitmap n e h = rw (← e, ne_eqb n 14 h)
+  no_bitmap h = rw (ne_eqb (order r.expected) 14 (λ o. h (rows_expected r.expected o)))
 
-  pub bitmap-next : (n : ℕ) → n ≡ order r.expected → n ≡ 14 → ltb r.read r.bbx.height ≡ in_bitmap r
+  pub bitmap-next : r.expected ≡ Rows → ltb r.read r.bbx.height ≡ in_bitmap r
   unfolding in_bitmap
-  bitmap-next n e h = rw (← e, eq-eqb n 14 h)
+  bitmap-next e = rw e
 
   module _ (l : List ℕ) (t : Bool) (e : t ≡ in_bitmap r) where
-    module _ (a : Answer) (q : a ≡ line_step r.expected r l (words l)) where
+    module _ (a : Result Answer Refusal) (q : a ≡ line_step r.expected r l (words l)) where
       pub step-bitmap : t ≡ true → a ≡ step r l
       unfolding step
       step-bitmap o = rw (← e, o) q
@@ -413,6 +436,6 @@ module _ (r : Reader) where
       unfolding step
       step_line u o f p = rw (← e, o, ← f, p) q
 
-    pub step-comment : (u : Bool) → t ≡ false → u ≡ is_comment word.comment (words l) → u ≡ true → Passed r ≡ step r l
+    pub step-comment : (u : Bool) → t ≡ false → u ≡ is_comment word.comment (words l) → u ≡ true → Ok (Passed r) ≡ step r l
     unfolding step
     step-comment u o f p = rw (← e, o, ← f, p)

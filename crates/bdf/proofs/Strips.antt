@@ -14,27 +14,27 @@ use mir.Syntax.{w32, w64}
 use mir.Val.{Fits}
 use borrow.Author.Tests.{lt-ltb, eqb-true, leb-true, not-true, not-false}
 use Rattle.characters.specs.Utf8.{is_surrogate}
+use Rattle.std.specs.Prelude.{Option, Some, Result, Ok}
+use Rattle.refusals.specs.declared.Refusal.{Refusal}
+use Rattle.bdf.specs.declared.reader.Answer.TheVariants.{Passed, Boxed, Encoded, Drawn}
 use Rattle.bdf_lines.specs.Forms.{line_at, RowFound}
 use Rattle.bdf_lines.proofs.BitmapLines.{bits_small}
 use Rattle.bdf.specs.declared.reader.BoundingBox.{BoundingBox}
 use Rattle.bdf.specs.declared.reader.Expected.TheVariants.{Rows}
 use Rattle.bdf.specs.declared.reader.Answer.{Answer}
-use Rattle.bdf.specs.declared.reader.Answer.TheVariants as answer
 use Rattle.bdf.specs.declared.reader.Reader.{Reader}
 use Rattle.bdf.specs.declared.file.Strip.{Strip}
-use Rattle.bdf_lines.specs.declared.forms.RowAt.{RowAt}
-use Rattle.bdf_lines.specs.declared.forms.RowAt.TheVariants as found
 use Rattle.bdf.specs.declared.reader.Expected.{Expected}
 use Rattle.bdf.specs.Reader.{spelling, order, in_bitmap, step, after, last_reader, with_encoding, with_row}
 use Rattle.bdf.specs.Font.{ink_left, ink_top, stride, atlas_size}
 use Rattle.bdf.specs.Writing.{with_bits, BitsFit, put_row, put}
 use Rattle.bdf.specs.Within.{Within}
 use Rattle.bdf.specs.Walk.{lines_from, put_if, Room, Carries, rows_read, strip_of, put_strip, put_strip_if, StripFits, put_spelling_if, SpellingFits, AnswerFits}
-use Rattle.bdf.proofs.Steps.{spelling_short}
+use Rattle.bdf.proofs.Steps.{spelling_short, rows_expected}
 use Rattle.bdf.proofs.Invariant.{within_step}
 use Rattle.bdf.proofs.Gathered.{gathered, glyphs-counted, mapping_counted}
 use Rattle.bdf.proofs.Rows.{line_row, line_room}
-use Rattle.bdf.proofs.Walks.{carries_none, carries_line, room_kept, rows_expected, row_step}
+use Rattle.bdf.proofs.Walks.{carries_none, carries_line, room_kept, row_step}
 use Rattle.bdf.proofs.Turns.{Turn, refused, passed, celled, encoded, boxed, drawn, turn}
 
 -- a strip's line is the bitmap line of its glyph
@@ -132,7 +132,7 @@ module _ (writing : Bool) (r last : Reader) (size n : ℕ) (w : Within r) (m : R
 
 -- what the answer to a line says fits
 module _ (writing : Bool) (r : Reader) (ls : List (List ℕ)) (size n : ℕ) (w : Within r) where
-  fits-turn : (a : Answer) → Turn r a → Within (after r a) → Room writing (last_reader (after r a) ls) size n → AnswerFits writing size r a n
+  fits-turn : (a : Result Answer Refusal) → Turn r a → Within (after r a) → Room writing (last_reader (after r a) ls) size n → AnswerFits writing size r a n
   unfolding AnswerFits
   fits-turn a (refused k) i m = tt
   fits-turn a (passed e k f) i m = tt
@@ -146,58 +146,53 @@ module _ (writing : Bool) (r : Reader) (ls : List (List ℕ)) (size n : ℕ) (w 
         room = λ x. omega (arith, m.whole x, mapping_counted (with_encoding v r) ls);
       }
   fits-turn a (drawn bits o h b) i m =
-      let g = gathered (after r (answer.Drawn (with_row r) bits)) ls i in (
+      let g = gathered (after r (Ok (Drawn (with_row r) bits))) ls i in (
         w.begun (omega arith) (omega arith),
         strip_fits writing r (last_reader (with_row r) ls) size n w m o (g.cell (omega arith)) (omega (arith, glyphs-counted (with_row r) ls)) r.read bits h b,
       )
 
-  pub answer_fits : (l : List ℕ) (a : Answer) → a ≡ step r l → Room writing (last_reader r (l ∷ ls)) size n → AnswerFits writing size r a n
+  pub answer_fits : (l : List ℕ) (a : Result Answer Refusal) → a ≡ step r l → Room writing (last_reader r (l ∷ ls)) size n → AnswerFits writing size r a n
   unfolding last_reader
   answer_fits l a e m = rw e (fits-turn (step r l) (turn r l) (within_step r l w) m)
 
 -- ---- putting what an answer says
 
-module _ (writing : Bool) (size : ℕ) (r s : Reader) (a : Answer) (n : ℕ) (f : AnswerFits writing size r a n) where
-  pub encoded_fits : (v : ℕ) → a ≡ answer.Encoded s v → SpellingFits writing (size + r.mapping) (size + s.mapping) v n
+module _ (writing : Bool) (size : ℕ) (r s : Reader) (a : Answer) (n : ℕ) (f : AnswerFits writing size r (Ok a) n) where
+  pub encoded_fits : (v : ℕ) → a ≡ Encoded s v → SpellingFits writing (size + r.mapping) (size + s.mapping) v n
   unfolding AnswerFits
   encoded_fits v e = rw e at f
 
-  pub drawn_fits : (bits : ℕ) (x : Strip) → a ≡ answer.Drawn s bits → x ≡ strip_of r → StripFits writing x r.read bits n
+  pub drawn_fits : (bits : ℕ) (x : Strip) → a ≡ Drawn s bits → x ≡ strip_of r → StripFits writing x r.read bits n
   unfolding AnswerFits
   drawn_fits bits x e q = rw q (rw e at f).1
 
   pub from_fits : Within r → size ≤ 100_000_000 → Fits w64 (size + r.mapping)
   from_fits w h = omega (arith, w.short)
 
-  pub to_fits : (v : ℕ) → a ≡ answer.Encoded s v → Within r → size ≤ 100_000_000 → Fits w64 (size + s.mapping)
+  pub to_fits : (v : ℕ) → a ≡ Encoded s v → Within r → size ≤ 100_000_000 → Fits w64 (size + s.mapping)
   to_fits v e w h = omega (arith, w.short, (encoded_fits v e).ends, spelling_short v)
 
-  pub drawn_glyph : (bits : ℕ) → a ≡ answer.Drawn s bits → 1 ≤ r.glyphs
+  pub drawn_glyph : (bits : ℕ) → a ≡ Drawn s bits → 1 ≤ r.glyphs
   unfolding AnswerFits
   drawn_glyph bits e = (rw e at f).0
 
 module _ (size : ℕ) (r s : Reader) (a : Answer) (out exit : List ℕ) where
-  pub put_refused : (w : Bool) (k : ℕ) → a ≡ answer.Refused k → out ≡ put_if w size r a out
-  unfolding put
-  put_refused true k e = rw e
-  put_refused false k e = refl
-
-  pub put_passed : (w : Bool) → a ≡ answer.Passed s → out ≡ put_if w size r a out
+  pub put_passed : (w : Bool) → a ≡ Passed s → out ≡ put_if w size r (Ok a) out
   unfolding put
   put_passed true e = rw e
   put_passed false e = refl
 
-  pub put_boxed : (w : Bool) → a ≡ answer.Boxed s → out ≡ put_if w size r a out
+  pub put_boxed : (w : Bool) → a ≡ Boxed s → out ≡ put_if w size r (Ok a) out
   unfolding put
   put_boxed true e = rw e
   put_boxed false e = refl
 
-  pub put_encoded : (w : Bool) (v : ℕ) → a ≡ answer.Encoded s v → exit ≡ put_spelling_if w (size + r.mapping) v out → exit ≡ put_if w size r a out
+  pub put_encoded : (w : Bool) (v : ℕ) → a ≡ Encoded s v → exit ≡ put_spelling_if w (size + r.mapping) v out → exit ≡ put_if w size r (Ok a) out
   unfolding put
   put_encoded true v e q = rw e q
   put_encoded false v e q = q
 
-  pub put_drawn : (w : Bool) (bits : ℕ) (x : Strip) → a ≡ answer.Drawn s bits → x ≡ strip_of r → exit ≡ put_strip_if w x r.read bits out → exit ≡ put_if w size r a out
+  pub put_drawn : (w : Bool) (bits : ℕ) (x : Strip) → a ≡ Drawn s bits → x ≡ strip_of r → exit ≡ put_strip_if w x r.read bits out → exit ≡ put_if w size r (Ok a) out
   unfolding put
   put_drawn true bits x e f q = rw e (q ∙ rw f (strip_row r r.read bits out))
   put_drawn false bits x e f q = q
@@ -285,19 +280,19 @@ module _ (file : List ℕ) (w : Bool) (size : ℕ) (r : Reader) (from : ℕ) (ou
     bitmap-glyph i = let e = ap order expected-rows in i.begun (omega arith) (omega arith)
 
     -- before the first
-    pub rows_start : Within r → from ≤ length file → Carries file w size r from out (rows_read r.read r) from out
-    rows_start i h =
-        let e : r ≡ rows_read r.read r = ap (λ (x : Expected). record { expected = x; left = r.left; cell = r.cell; bbx = r.bbx; glyphs = r.glyphs; mapping = r.mapping; least = r.least; read = r.read }) expected-rows in
-        rw (← e) (carries_none file w size r from out i h)
+    pub rows_same : r ≡ rows_read r.read r
+    rows_same = ap (λ (x : Expected). record { expected = x; left = r.left; cell = r.cell; bbx = r.bbx; glyphs = r.glyphs; mapping = r.mapping; least = r.least; read = r.read }) expected-rows
 
-  -- after the last
-  pub rows_end : (i at : ℕ) (mid : List ℕ) (s : Reader) → s ≡ rows_read i r → Carries file w size r from out (rows_read i r) at mid → Carries file w size r from out s at mid
-  rows_end i at mid s e c = rw e c
+  pub rows_start : Within r → from ≤ length file → Carries file w size r from out r from out
+  rows_start i h = carries_none file w size r from out i h
 
-  module _ (i at : ℕ) (mid : List ℕ) (c : Carries file w size r from out (rows_read i r) at mid) (less : i < r.bbx.height) (x : RowAt) (f : RowFound file at r.bbx.width x)
-      (bits end : ℕ) (e : x ≡ found.Bits bits end) where
+  module _ (i at : ℕ) (mid : List ℕ) (p : Reader) (same : p ≡ rows_read i r) (c : Carries file w size r from out p at mid) (less : i < r.bbx.height) (x : Option (ℕ × ℕ))
+      (f : RowFound file at r.bbx.width x) (bits end : ℕ) (e : x ≡ Some (bits, end)) where
     abbrev here : Reader
     here = rows_read i r
+
+    carried : Carries file w size r from out here at mid
+    carried = rw same at c
 
     pub row_end_fits : Fits w64 (length file) → Fits w64 (end + 1)
     row_end_fits l = omega (arith, (f.found bits end e).more)
@@ -305,16 +300,22 @@ module _ (file : List ℕ) (w : Bool) (size : ℕ) (r : Reader) (from : ℕ) (ou
     pub row_strip_fits : Room w (last_reader r (lines_from file from)) size (length out) → (s : Strip) → s ≡ strip_of r → StripFits w s i bits (length mid)
     unfolding strip_of
     row_strip_fits m s q =
-        let g = gathered here (lines_from file at) c.within in
+        let g = gathered here (lines_from file at) carried.within in
         let k = glyphs-counted here (lines_from file at) in
-        rw q (strip_fits w here (last_reader here (lines_from file at)) size (length mid) c.within (room_kept file w size r from out here at mid c m) refl (g.cell (omega arith)) (omega arith)
+        rw q (strip_fits w here (last_reader here (lines_from file at)) size (length mid) carried.within (room_kept file w size r from out here at mid carried m) refl (g.cell (omega arith)) (omega arith)
         i bits less (bits_small r.bbx.width bits (line_at file at) (f.found bits end e).bitmap))
 
     -- over one
-    pub rows_step : (s : Strip) (exit : List ℕ) → s ≡ strip_of r → exit ≡ put_strip_if w s i bits mid → length exit ≡ length mid → Carries file w size r from out (rows_read (i + 1) r) (end + 1) exit
+    abbrev next : Reader
+    next = record { expected = p.expected; left = p.left; cell = p.cell; bbx = p.bbx; glyphs = p.glyphs; mapping = p.mapping; least = p.least; read = i + 1 }
+
+    pub rows_next : next ≡ rows_read (i + 1) r
+    rows_next = rw same
+
+    pub rows_step : (s : Strip) (exit : List ℕ) → s ≡ strip_of r → exit ≡ put_strip_if w s i bits mid → length exit ≡ length mid → Carries file w size r from out next (end + 1) exit
     unfolding in_bitmap strip_of
-    rows_step s exit q p m =
+    rows_step s exit q t m =
         let b : in_bitmap here ≡ true = lt-ltb i r.bbx.height less in
-        let d : answer.Drawn (with_row here) bits ≡ step here (line_at file at) = row_step here (line_at file at) bits b (f.found bits end e).bitmap in
-        carries_line file w size r from out here at mid c (answer.Drawn (with_row here) bits) end d (f.found bits end e).ends (f.found bits end e).more refl (with_row here) exit refl
-        (put_drawn size here (with_row here) (answer.Drawn (with_row here) bits) mid exit w bits s refl q p) m
+        let d : Ok (Drawn (with_row here) bits) ≡ step here (line_at file at) = row_step here (line_at file at) bits b (f.found bits end e).bitmap in
+        rw rows_next (carries_line file w size r from out here at mid carried (Ok (Drawn (with_row here) bits)) end d (f.found bits end e).ends (f.found bits end e).more refl (with_row here) exit refl
+        (put_drawn size here (with_row here) (Drawn (with_row here) bits) mid exit w bits s refl q t) m)

@@ -6,6 +6,8 @@ use mathlib.Core.List.{List, [], ◌∷◌, ◌++◌, append_assoc, append-nil}
 use lib.ListN.{length, take, drop, replicate, length-append, length-replicate, length-drop, take-append-drop, drop_of_length-le}
 use lib.Seq.{length-take-le, take-append-add, drop-append-add, take_at, drop_at, drop-drop}
 use borrow.Rule.Slice.PartMut.{put_mid, same_len_mid}
+use Rattle.std.specs.Prelude.{Result}
+use Rattle.refusals.specs.declared.Refusal.{Refusal}
 use Rattle.bdf.specs.declared.reader.Reader.{Reader}
 use Rattle.bdf.specs.declared.reader.Answer.{Answer}
 use Rattle.bdf.specs.Reader.{spelling, start, step, after, last_reader, file_lines}
@@ -56,7 +58,7 @@ Writes r last rest f =
     ++ put_mid r.mapping (length (spellings (encodings rest.glyphs))) mapping (spellings (encodings rest.glyphs))
 
 -- over a line
-writes_turn : (r : Reader) (a : Answer) (last : Reader) (rest : Rest) (f : List ℕ → List ℕ) → Turn r a → Within r → Gathered (after r a) last rest
+writes_turn : (r : Reader) (a : Result Answer Refusal) (last : Reader) (rest : Rest) (f : List ℕ → List ℕ) → Turn r a → Within r → Gathered (after r a) last rest
     → (after r a).glyphs ≤ last.glyphs → (after r a).mapping ≤ last.mapping → Writes (after r a) last rest f
     → Writes r last (gather r a rest) (λ out. f (put (atlas_size last.cell last.glyphs) r a out))
 unfolding gather put put_rows put_glyphs encodings spellings

@@ -1,12 +1,11 @@
 -- The font that a file gives: its glyphs, and its record, atlas and mapping as bytes (docs/SHEET.md, Fonts from BDF). Assumes nothing.
 -- To be believed: it says what a font file means.
-use Rattle.std.specs.Prelude.{ℕ, zero, suc, ◌+◌, ◌-◌, ◌*◌, ◌/◌, ◌%◌, ◌^◌, Bool, cond, ◌&&◌, List, [], ◌∷◌, ◌++◌, length, drop, get_or, ltb, leb, eqb}
+use Rattle.std.specs.Prelude.{ℕ, zero, suc, ◌+◌, ◌-◌, ◌*◌, ◌/◌, ◌%◌, ◌^◌, Bool, cond, ◌&&◌, List, [], ◌∷◌, ◌++◌, Result, Ok, Err, length, drop, get_or, ltb, leb, eqb}
 use Rattle.bdf.specs.declared.reader.BoundingBox.{BoundingBox}
 use Rattle.bdf.specs.declared.reader.Reader.{Reader}
 use Rattle.bdf.specs.declared.reader.Answer.{Answer}
 use Rattle.bdf.specs.declared.reader.Answer.TheVariants as answer
-use Rattle.bdf.specs.declared.Outcome.{Outcome}
-use Rattle.bdf.specs.declared.Outcome.TheVariants.{Refused, Written}
+use Rattle.refusals.specs.declared.Refusal.{Refusal}
 use Rattle.characters.specs.Refusal.{need, or_else, unless_refused}
 use Rattle.bdf.specs.Reader.{baseline, spelling, nowhere, start, step, after, first_refusal, last_reader, file_lines}
 
@@ -25,12 +24,12 @@ pub record Rest : Type 0 where
   pub glyphs : List Glyph
 
 -- what a line adds to what the lines after it give; r is the reader before the line
-unfoldable pub gather : Reader → Answer → Rest → Rest
-gather r (answer.Refused n) rest = rest
-gather r (answer.Passed s) rest = rest
-gather r (answer.Boxed s) rest = record { rows = rest.rows; bbx = s.bbx; glyphs = rest.glyphs }
-gather r (answer.Encoded s v) rest = record { rows = []; bbx = r.bbx; glyphs = record { encoding = v; bbx = rest.bbx; rows = rest.rows } ∷ rest.glyphs }
-gather r (answer.Drawn s bits) rest = record { rows = bits ∷ rest.rows; bbx = rest.bbx; glyphs = rest.glyphs }
+unfoldable pub gather : Reader → Result Answer Refusal → Rest → Rest
+gather r (Err n) rest = rest
+gather r (Ok (answer.Passed s)) rest = rest
+gather r (Ok (answer.Boxed s)) rest = record { rows = rest.rows; bbx = s.bbx; glyphs = rest.glyphs }
+gather r (Ok (answer.Encoded s v)) rest = record { rows = []; bbx = r.bbx; glyphs = record { encoding = v; bbx = rest.bbx; rows = rest.rows } ∷ rest.glyphs }
+gather r (Ok (answer.Drawn s bits)) rest = record { rows = bits ∷ rest.rows; bbx = rest.bbx; glyphs = rest.glyphs }
 
 unfoldable pub rest_of : Reader → List (List ℕ) → Rest
 rest_of r [] = record { rows = []; bbx = r.bbx; glyphs = [] }
@@ -147,14 +146,6 @@ refusal file = first_refusal start (file_lines file)
 -- a file's refusal, and "17 last": an output of n bytes that the font does not fit
 unfoldable pub read_code : List ℕ → ℕ → ℕ
 read_code file n = or_else (refusal file) (need (leb (length (font_bytes (font_of file))) n) 17 0)
-
-abbrev pub outcome_of : ℕ → ℕ → Outcome
-outcome_of zero size = Written size
-outcome_of (suc n) size = Refused (suc n)
-
--- what reading a file replies where the output has n bytes
-unfoldable pub outcome : List ℕ → ℕ → Outcome
-outcome file n = outcome_of (read_code file n) (length (font_bytes (font_of file)))
 
 -- the output after it: "output past it keeps its bytes"
 unfoldable pub written : List ℕ → List ℕ → List ℕ

@@ -1,24 +1,20 @@
 -- A reader of font files, line by line (docs/SHEET.md, Fonts from BDF): what each line does to it, or the refusal. Assumes nothing.
 -- To be believed: it says what a font file means.
-use Rattle.std.specs.Prelude.{ℕ, ◌+◌, ◌-◌, ◌/◌, ◌%◌, Bool, true, false, not, cond, ◌&&◌, List, [], ◌∷◌, map, length, ltb, leb, eqb}
+use Rattle.std.specs.Prelude.{ℕ, ◌+◌, ◌-◌, ◌/◌, ◌%◌, Bool, true, false, not, cond, ◌&&◌, List, [], ◌∷◌, map, length, Option, Some, None, Result, Ok, Err, ltb, leb, eqb}
 use Rattle.characters.specs.Refusal.{need, or_else, all}
 use Rattle.characters.specs.Utf8.{is_surrogate}
 use Rattle.characters.specs.Lines.{lines, without_return}
+use Rattle.refusals.specs.declared.Refusal.{Refusal}
+use Rattle.refusals.specs.declared.Refusal.TheVariants.{BdfLine, BdfLimit, BdfEncoding}
+use Rattle.refusals.specs.Numbers.{refusal_of}
 use Rattle.bdf_lines.specs.declared.values.Number.{Number}
-use Rattle.bdf_lines.specs.declared.values.Read.{Read}
-use Rattle.bdf_lines.specs.declared.values.Read.TheVariants as read
-use Rattle.bdf_lines.specs.declared.values.Count.{Count}
-use Rattle.bdf_lines.specs.declared.values.Count.TheVariants as count
 use Rattle.bdf_lines.specs.declared.values.Four.{Four}
-use Rattle.bdf_lines.specs.declared.values.Four.TheVariants as four
-use Rattle.bdf_lines.specs.declared.values.Row.{Row}
-use Rattle.bdf_lines.specs.declared.values.Row.TheVariants as row
 use Rattle.bdf.specs.declared.reader.BoundingBox.{BoundingBox}
 use Rattle.bdf.specs.declared.reader.Expected.{Expected}
 use Rattle.bdf.specs.declared.reader.Expected.TheVariants.{StartFont, Font, Size, FontBoundingBox, Properties, Property, Chars, Glyph, Encoding, Swidth, Dwidth, Bbx, Attributes, Bitmap, Rows, Nothing}
 use Rattle.bdf.specs.declared.reader.Reader.{Reader}
 use Rattle.bdf.specs.declared.reader.Answer.{Answer}
-use Rattle.bdf.specs.declared.reader.Answer.TheVariants.{Refused, Passed, Boxed, Encoded, Drawn}
+use Rattle.bdf.specs.declared.reader.Answer.TheVariants.{Passed, Boxed, Encoded, Drawn}
 use Rattle.bdf_lines.specs.Words.{words, is_alone, is_named, is_pair, is_comment, has_numbers, count_of, four_of, encoding_of, is_hex_pair, row_of}
 use Rattle.bdf_lines.specs.Keywords as word
 
@@ -96,14 +92,14 @@ abbrev pub leaving : Expected → ℕ → Reader → Reader
 leaving e n r = record { expected = e; left = n; cell = r.cell; bbx = r.bbx; glyphs = r.glyphs; mapping = r.mapping; least = r.least; read = r.read }
 
 -- a line that only has to stand there
-abbrev pub moved : Bool → Expected → Reader → Answer
-moved true e r = Passed (expecting e r)
-moved false e r = Refused 19
+abbrev pub moved : Bool → Expected → Reader → Result Answer Refusal
+moved true e r = Ok (Passed (expecting e r))
+moved false e r = Err BdfLine
 
 -- a line with a count
-abbrev pub counted : Count → Expected → Reader → Answer
-counted (count.Of n) e r = Passed (leaving e n r)
-counted count.Wrong e r = Refused 19
+abbrev pub counted : Option ℕ → Expected → Reader → Result Answer Refusal
+counted (Some n) e r = Ok (Passed (leaving e n r))
+counted None e r = Err BdfLine
 
 -- FONTBOUNDINGBOX: "The cell is FONTBOUNDINGBOX"; a glyph's box lies in it from the start
 abbrev pub with_cell : BoundingBox → Reader → Reader
@@ -118,14 +114,14 @@ with_cell b r = record {
   read = r.read;
 }
 
-unfoldable pub cell_line : Four → Reader → Answer
-cell_line four.Wrong r = Refused 19
-cell_line (four.Numbers w h x y) r = cond (is_cell w h x y) (Passed (with_cell (box w h x y) r)) (Refused 20)
+unfoldable pub cell_line : Option Four → Reader → Result Answer Refusal
+cell_line None r = Err BdfLine
+cell_line (Some f) r = cond (is_cell f.width f.height f.x f.y) (Ok (Passed (with_cell (box f.width f.height f.x f.y) r))) (Err BdfLimit)
 
 -- STARTPROPERTIES, or else CHARS
-unfoldable pub properties_line : Count → Count → Reader → Answer
-properties_line (count.Of n) chars r = Passed (leaving Property n r)
-properties_line count.Wrong chars r = counted chars Glyph r
+unfoldable pub properties_line : Option ℕ → Option ℕ → Reader → Result Answer Refusal
+properties_line (Some n) chars r = Ok (Passed (leaving Property n r))
+properties_line None chars r = counted chars Glyph r
 
 -- ENCODING: 21 for "an encoding that is no character or doesn't rise", then 20 for "a mapping above 65,535 bytes"
 abbrev pub with_encoding : ℕ → Reader → Reader
@@ -140,47 +136,47 @@ with_encoding v r = record {
   read = 0;
 }
 
-unfoldable pub spelling_line : ℕ → Reader → Answer
-spelling_line v r = cond (leb (r.mapping + length (spelling v)) 65_535) (Encoded (with_encoding v r) v) (Refused 20)
+unfoldable pub spelling_line : ℕ → Reader → Result Answer Refusal
+spelling_line v r = cond (leb (r.mapping + length (spelling v)) 65_535) (Ok (Encoded (with_encoding v r) v)) (Err BdfLimit)
 
-unfoldable pub encoding_line : Read → Reader → Answer
-encoding_line read.Wrong r = Refused 19
-encoding_line (read.Value n) r = cond (is_character n && leb r.least n.size) (spelling_line n.size r) (Refused 21)
+unfoldable pub encoding_line : Option Number → Reader → Result Answer Refusal
+encoding_line None r = Err BdfLine
+encoding_line (Some n) r = cond (is_character n && leb r.least n.size) (spelling_line n.size r) (Err BdfEncoding)
 
 -- BBX
 abbrev pub with_bbx : BoundingBox → Reader → Reader
 with_bbx b r = record { expected = Attributes; left = r.left; cell = r.cell; bbx = b; glyphs = r.glyphs; mapping = r.mapping; least = r.least; read = r.read }
 
-unfoldable pub bbx_line : Four → Reader → Answer
-bbx_line four.Wrong r = Refused 19
-bbx_line (four.Numbers w h x y) r = cond (is_in_cell r.cell w h x y) (Boxed (with_bbx (box w h x y) r)) (Refused 20)
+unfoldable pub bbx_line : Option Four → Reader → Result Answer Refusal
+bbx_line None r = Err BdfLine
+bbx_line (Some f) r = cond (is_in_cell r.cell f.width f.height f.x f.y) (Ok (Boxed (with_bbx (box f.width f.height f.x f.y) r))) (Err BdfLimit)
 
 -- a bitmap line: one more was read
 abbrev pub with_row : Reader → Reader
 with_row r = record { expected = Rows; left = r.left; cell = r.cell; bbx = r.bbx; glyphs = r.glyphs; mapping = r.mapping; least = r.least; read = r.read + 1 }
 
-unfoldable pub row_line : Row → Reader → Answer
-row_line row.Wrong r = Refused 19
-row_line (row.Bits bits) r = Drawn (with_row r) bits
+unfoldable pub row_line : Option ℕ → Reader → Result Answer Refusal
+row_line None r = Err BdfLine
+row_line (Some bits) r = Ok (Drawn (with_row r) bits)
 
 -- what the line that is expected does, from its bytes and its words
-unfoldable pub line_step : Expected → Reader → List ℕ → List (List ℕ) → Answer
+unfoldable pub line_step : Expected → Reader → List ℕ → List (List ℕ) → Result Answer Refusal
 line_step StartFont r l ws = moved (is_pair word.start_font word.version ws) Font r
 line_step Font r l ws = moved (is_named word.font ws) Size r
 line_step Size r l ws = moved (has_numbers word.size 3 ws) FontBoundingBox r
 line_step FontBoundingBox r l ws = cell_line (four_of word.font_bounding_box ws) r
 line_step Properties r l ws = properties_line (count_of word.start_properties ws) (count_of word.chars ws) r
-line_step Property r l ws = cond (eqb r.left 0) (moved (is_alone word.end_properties ws) Chars r) (Passed (leaving Property (r.left - 1) r))
+line_step Property r l ws = cond (eqb r.left 0) (moved (is_alone word.end_properties ws) Chars r) (Ok (Passed (leaving Property (r.left - 1) r)))
 line_step Chars r l ws = counted (count_of word.chars ws) Glyph r
 line_step Glyph r l ws = cond (eqb r.left 0) (moved (is_alone word.end_font ws) Nothing r) (moved (is_named word.start_char ws) Encoding (leaving Glyph (r.left - 1) r))
 line_step Encoding r l ws = encoding_line (encoding_of word.encoding ws) r
 line_step Swidth r l ws = moved (has_numbers word.swidth 2 ws) Dwidth r
 line_step Dwidth r l ws = moved (has_numbers word.dwidth 2 ws) Bbx r
 line_step Bbx r l ws = bbx_line (four_of word.bbx ws) r
-line_step Attributes r l ws = cond (is_hex_pair word.attributes ws) (Passed (expecting Bitmap r)) (moved (is_alone word.bitmap ws) Rows r)
+line_step Attributes r l ws = cond (is_hex_pair word.attributes ws) (Ok (Passed (expecting Bitmap r))) (moved (is_alone word.bitmap ws) Rows r)
 line_step Bitmap r l ws = moved (is_alone word.bitmap ws) Rows r
 line_step Rows r l ws = cond (ltb r.read r.bbx.height) (row_line (row_of r.bbx.width l) r) (moved (is_alone word.end_char ws) Glyph r)
-line_step Nothing r l ws = Refused 19
+line_step Nothing r l ws = Err BdfLine
 
 -- the lines in their order
 abbrev pub order : Expected → ℕ
@@ -206,26 +202,22 @@ unfoldable pub in_bitmap : Reader → Bool
 in_bitmap r = eqb (order r.expected) (order Rows) && ltb r.read r.bbx.height
 
 -- what a line does
-unfoldable pub step : Reader → List ℕ → Answer
-step r l = cond (not (in_bitmap r) && is_comment word.comment (words l)) (Passed r) (line_step r.expected r l (words l))
+unfoldable pub step : Reader → List ℕ → Result Answer Refusal
+step r l = cond (not (in_bitmap r) && is_comment word.comment (words l)) (Ok (Passed r)) (line_step r.expected r l (words l))
 
 -- ---- all lines
 
--- the refusal of a line, or 0
-abbrev pub refusal_of : Answer → ℕ
-refusal_of (Refused n) = n
-refusal_of (Passed r) = 0
-refusal_of (Boxed r) = 0
-refusal_of (Encoded r v) = 0
-refusal_of (Drawn r bits) = 0
+-- the reader after a line that is not refused
+abbrev pub reader_of : Answer → Reader
+reader_of (Passed s) = s
+reader_of (Boxed s) = s
+reader_of (Encoded s v) = s
+reader_of (Drawn s bits) = s
 
 -- the reader after a line
-abbrev pub after : Reader → Answer → Reader
-after r (Refused n) = r
-after r (Passed s) = s
-after r (Boxed s) = s
-after r (Encoded s v) = s
-after r (Drawn s bits) = s
+abbrev pub after : Reader → Result Answer Refusal → Reader
+after r (Ok a) = reader_of a
+after r (Err n) = r
 
 -- the refusal of the first line that is wrong; 19 for what "is missing when the file ends"
 unfoldable pub first_refusal : Reader → List (List ℕ) → ℕ

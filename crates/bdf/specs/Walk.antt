@@ -1,6 +1,6 @@
 -- A walk over the lines of a file, as its functions make it: what the whole file comes to, told from a position in it. Assumes nothing.
 -- Serves contracts: nothing here has to be believed.
-use Rattle.std.specs.Prelude.{ℕ, zero, suc, ◌+◌, ◌-◌, ◌*◌, ◌/◌, ◌%◌, ◌^◌, ◌≤◌, ◌<◌, ◌≡◌, Bool, true, false, List, [], map, length, take, drop}
+use Rattle.std.specs.Prelude.{ℕ, ◌+◌, ◌-◌, ◌*◌, ◌/◌, ◌%◌, ◌^◌, ◌≤◌, ◌<◌, ◌≡◌, Bool, true, false, List, [], Result, Ok, Err, map, length, take, drop}
 use borrow.Rule.Slice.PartMut.{put_mid}
 use Rattle.geometry.specs.Layer.{map_indexed}
 use Rattle.characters.specs.Lines.{lines, without_return}
@@ -8,10 +8,9 @@ use Rattle.bdf.specs.declared.reader.Expected.TheVariants.{Rows}
 use Rattle.bdf.specs.declared.reader.Reader.{Reader}
 use Rattle.bdf.specs.declared.reader.Answer.{Answer}
 use Rattle.bdf.specs.declared.reader.Answer.TheVariants as answer
-use Rattle.bdf.specs.declared.file.Measured.{Measured}
-use Rattle.bdf.specs.declared.file.Measured.TheVariants.{Refused, Good}
+use Rattle.refusals.specs.declared.Refusal.{Refusal}
+use Rattle.refusals.specs.Numbers.{number, refusal_of}
 use Rattle.bdf.specs.declared.file.Strip.{Strip}
-use Rattle.bdf.specs.declared.file.Turned.{Turned}
 use Rattle.bdf.specs.Reader.{spelling, start, first_refusal, last_reader, file_lines}
 use Rattle.bdf.specs.Font.{ink_left, ink_top, stride, atlas_size, refusal}
 use Rattle.bdf.specs.Writing.{with_bits, put, put_lines}
@@ -21,16 +20,13 @@ use Rattle.bdf.specs.Within.{Within}
 unfoldable pub lines_from : List ℕ → ℕ → List (List ℕ)
 lines_from file at = map without_return (lines (drop at file))
 
-abbrev pub measured_of : ℕ → Reader → Measured
-measured_of zero r = Good r
-measured_of (suc n) r = Refused (suc n)
-
--- what lines come to, from a reader on
-unfoldable pub measured : Reader → List (List ℕ) → Measured
-measured r ls = measured_of (first_refusal r ls) (last_reader r ls)
+-- what lines come to, from a reader on: their first refusal, or the reader after the last
+pub record Measured (x : Result Reader Refusal) (r : Reader) (ls : List (List ℕ)) : Type 0 where
+  pub code : refusal_of x ≡ first_refusal r ls
+  pub last : (s : Reader) → x ≡ Ok s → s ≡ last_reader r ls
 
 -- what they put, where they are written
-abbrev pub put_if : Bool → ℕ → Reader → Answer → List ℕ → List ℕ
+abbrev pub put_if : Bool → ℕ → Reader → Result Answer Refusal → List ℕ → List ℕ
 put_if true size r a out = put size r a out
 put_if false size r a out = out
 
@@ -49,17 +45,23 @@ pub record Carries (file : List ℕ) (writing : Bool) (size : ℕ) (r : Reader) 
   pub within : Within s
   pub onward : at ≤ to
   pub inside : to ≤ length file
-  pub same_measure : measured s (lines_from file to) ≡ measured r (lines_from file at)
+  pub same_refusal : first_refusal s (lines_from file to) ≡ first_refusal r (lines_from file at)
   pub same_last : last_reader s (lines_from file to) ≡ last_reader r (lines_from file at)
   pub same-put : put_lines_if writing size s (lines_from file to) exit ≡ put_lines_if writing size r (lines_from file at) out
   pub same_length : length exit ≡ length out
 
+-- over the last line, to the reader s: what it comes to and what it puts
+pub record LastLine (file : List ℕ) (writing : Bool) (size : ℕ) (r : Reader) (at : ℕ) (out : List ℕ) (s : Reader) (exit : List ℕ) : Type 0 where
+  pub same_refusal : first_refusal s [] ≡ first_refusal r (lines_from file at)
+  pub same_last : s ≡ last_reader r (lines_from file at)
+  pub put_whole : exit ≡ put_lines_if writing size r (lines_from file at) out
+
 -- over a line: it is refused; or another follows; or it is the last
-pub record LineOver (file : List ℕ) (writing : Bool) (size : ℕ) (r : Reader) (at : ℕ) (out : List ℕ) (x : Turned) (exit : List ℕ) : Type 0 where
-  pub onward : at ≤ x.end
-  pub refused : (x.code ≡ 0 → ⊥) → (Refused x.code ≡ measured r (lines_from file at)) × (exit ≡ out)
-  pub more : x.code ≡ 0 → x.end < length file → Carries file writing size r at out x.reader (x.end + 1) exit
-  pub last : x.code ≡ 0 → length file ≤ x.end → (measured x.reader [] ≡ measured r (lines_from file at)) × (exit ≡ put_lines_if writing size r (lines_from file at) out)
+pub record LineOver (file : List ℕ) (writing : Bool) (size : ℕ) (r : Reader) (at : ℕ) (out : List ℕ) (x : Result (Reader × ℕ) Refusal) (exit : List ℕ) : Type 0 where
+  pub refused : (n : Refusal) → x ≡ Err n → (number n ≡ first_refusal r (lines_from file at)) × (exit ≡ out)
+  pub onward : (s : Reader) (end : ℕ) → x ≡ Ok (s, end) → at ≤ end
+  pub more : (s : Reader) (end : ℕ) → x ≡ Ok (s, end) → end < length file → Carries file writing size r at out s (end + 1) exit
+  pub last : (s : Reader) (end : ℕ) → x ≡ Ok (s, end) → length file ≤ end → LastLine file writing size r at out s exit
 
 -- ---- bitmap lines
 
@@ -105,12 +107,12 @@ pub record SpellingFits (writing : Bool) (from to v n : ℕ) : Type 0 where
   pub room : writing ≡ true → to ≤ n
 
 -- what a line says lies in n bytes, if it is written; an atlas of `size` bytes stands before the mapping
-unfoldable pub AnswerFits : Bool → ℕ → Reader → Answer → ℕ → Type 0
-AnswerFits writing size r (answer.Refused k) n = Unit {0}
-AnswerFits writing size r (answer.Passed s) n = Unit {0}
-AnswerFits writing size r (answer.Boxed s) n = Unit {0}
-AnswerFits writing size r (answer.Encoded s v) n = SpellingFits writing (size + r.mapping) (size + s.mapping) v n
-AnswerFits writing size r (answer.Drawn s bits) n = (1 ≤ r.glyphs) × StripFits writing (strip_of r) r.read bits n
+unfoldable pub AnswerFits : Bool → ℕ → Reader → Result Answer Refusal → ℕ → Type 0
+AnswerFits writing size r (Err k) n = Unit {0}
+AnswerFits writing size r (Ok (answer.Passed s)) n = Unit {0}
+AnswerFits writing size r (Ok (answer.Boxed s)) n = Unit {0}
+AnswerFits writing size r (Ok (answer.Encoded s v)) n = SpellingFits writing (size + r.mapping) (size + s.mapping) v n
+AnswerFits writing size r (Ok (answer.Drawn s bits)) n = (1 ≤ r.glyphs) × StripFits writing (strip_of r) r.read bits n
 
 -- the reader after the last line of a good file
 pub record IsMeasured (file : List ℕ) (last : Reader) : Type 0 where

@@ -1,13 +1,14 @@
 -- A font as it is written: bitmap lines put one by one into the rows of the atlas, and what the functions that write need. Assumes nothing.
 -- Serves contracts: nothing here has to be believed.
-use Rattle.std.specs.Prelude.{ℕ, ◌+◌, ◌-◌, ◌*◌, ◌/◌, ◌%◌, ◌^◌, ◌≤◌, ◌<◌, cond, List, [], ◌∷◌, length, take, drop, get_or, leb}
+use Rattle.std.specs.Prelude.{ℕ, ◌+◌, ◌-◌, ◌*◌, ◌/◌, ◌%◌, ◌^◌, ◌≤◌, ◌<◌, cond, List, [], ◌∷◌, Result, Ok, Err, length, take, drop, get_or, leb}
 use Rattle.std.specs.Int.Bits.{bit_or}
 use borrow.Rule.Slice.PartMut.{put_mid}
 use Rattle.geometry.specs.Layer.{map_indexed}
 use Rattle.bdf.specs.declared.reader.BoundingBox.{BoundingBox}
 use Rattle.bdf.specs.declared.reader.Reader.{Reader}
+use Rattle.refusals.specs.declared.Refusal.{Refusal}
 use Rattle.bdf.specs.declared.reader.Answer.{Answer}
-use Rattle.bdf.specs.declared.reader.Answer.TheVariants.{Refused, Passed, Boxed, Encoded, Drawn}
+use Rattle.bdf.specs.declared.reader.Answer.TheVariants.{Passed, Boxed, Encoded, Drawn}
 use Rattle.bdf.specs.Reader.{baseline, spelling, step, after}
 use Rattle.bdf.specs.Font.{Glyph, ink_left, ink_top, stride}
 
@@ -74,12 +75,12 @@ GoodGlyphs cell (g ∷ gs) = GoodGlyph cell g × GoodGlyphs cell gs
 -- ---- lines of a file as they are written
 
 -- what a line puts into the atlas of `size` bytes and the mapping after it; r is the reader before the line
-unfoldable pub put : ℕ → Reader → Answer → List ℕ → List ℕ
-put size r (Refused n) out = out
-put size r (Passed s) out = out
-put size r (Boxed s) out = out
-put size r (Encoded s v) out = put_mid (size + r.mapping) (length (spelling v)) out (spelling v)
-put size r (Drawn s bits) out = put_row r.cell (r.glyphs - 1) r.bbx r.read bits out
+unfoldable pub put : ℕ → Reader → Result Answer Refusal → List ℕ → List ℕ
+put size r (Err n) out = out
+put size r (Ok (Passed s)) out = out
+put size r (Ok (Boxed s)) out = out
+put size r (Ok (Encoded s v)) out = put_mid (size + r.mapping) (length (spelling v)) out (spelling v)
+put size r (Ok (Drawn s bits)) out = put_row r.cell (r.glyphs - 1) r.bbx r.read bits out
 
 -- what all lines put there
 unfoldable pub put_lines : ℕ → Reader → List (List ℕ) → List ℕ → List ℕ

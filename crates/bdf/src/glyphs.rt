@@ -7,25 +7,22 @@ ghost use Rattle.bdf.specs.Stores.{put16, put32, metrics};
 ghost use Rattle.bdf.specs.Writing.{with_bits, BitsFit, GoodCell};
 
 use super::reader::BoundingBox;
-use geometry::numbers::minus;
-use numbers::wide64;
 
 // Puts the bits of a bitmap line into a row of the atlas, from pixel `left` up to `end`.
 pub fn put_bits(row: &mut [u8], left: usize, end: usize, bits: u64)
     requires { BitsFit left end bits (length row.old) }
     ensures { row.new ≡ map_indexed (with_bits bits end) 0 row.old }
 {
-    let mut j = left / 8;
-    while 8 * j + 8 <= end {
+    let whole = end / 8;
+    for j in left / 8..whole {
         let part = (bits >> (end - (8 * j + 8))) % 256;
-        row[j] = row[j] | (part as u8);
-        j += 1;
+        row[j] |= part as u8;
     }
-    if end <= 8 * j {
+    if end % 8 == 0 {
         return;
     }
-    let part = (bits << (8 * j + 8 - end)) % 256;
-    row[j] = row[j] | (part as u8);
+    let part = (bits << (8 - end % 8)) % 256;
+    row[whole] |= part as u8;
 }
 
 // How many bytes of a mapping spell a character.
@@ -86,11 +83,7 @@ pub fn put_character(part: &mut [u8], v: u32)
 pub fn clear(atlas: &mut [u8])
     ensures { atlas.new ≡ replicate (length atlas.old) 0 }
 {
-    let mut i = 0;
-    while i < atlas.len() {
-        atlas[i] = 0;
-        i += 1;
-    }
+    atlas.fill(0);
 }
 
 // Stores the two low bytes of a number from `at` on.
@@ -141,8 +134,8 @@ fn put_metrics(output: &mut [u8], cell: BoundingBox)
     output[0] = cell.width as u8;
     output[1] = cell.height as u8;
     output[2] = 0;
-    output[3] = minus(cell.height + cell.y, 1000000001) as u8;
-    output[4] = (minus(cell.height, 1) / 2) as u8;
+    output[3] = (cell.height + cell.y).saturating_sub(1000000001) as u8;
+    output[4] = (cell.height.saturating_sub(1) / 2) as u8;
     output[5] = 1;
     output[6] = (cell.height + 1) as u8;
     output[7] = 1;

@@ -1,25 +1,19 @@
 // A font file in the Glyph Bitmap Distribution Format 2.1, read line by line, and the font that it gives.
 #![tactic(auto)]
 
-ghost use Rattle.std.specs.Prelude.{◌≡◌, ◌+◌, length, ◌++◌};
-ghost use Rattle.bdf.specs.Font.{font_of, atlas_size, atlas_of, mapping_of, font_bytes, outcome, written};
+ghost use Rattle.std.specs.Prelude.{◌≡◌, ◌+◌, length, ◌++◌, IfOk};
+ghost use Rattle.refusals.specs.Numbers.{refusal_of};
+ghost use Rattle.bdf.specs.Font.{font_of, atlas_size, atlas_of, mapping_of, font_bytes, read_code, written};
 ghost use Rattle.bdf.specs.Within.{Within};
 ghost use Rattle.bdf.specs.Walk.{IsMeasured};
 
-use file::Measured;
 use reader::Reader;
+use refusals::Refusal;
 
 pub mod file;
 pub mod glyphs;
 pub mod reader;
 pub mod usual;
-
-// What reading a font file comes to: a refusal, or the length of the font that was written.
-#[derive(Clone, Copy)]
-pub enum Outcome {
-    Refused(u32),
-    Written(u32),
-}
 
 // The bytes of the atlas that a file's last reader has measured.
 fn atlas_size(reader: Reader) -> usize
@@ -40,7 +34,7 @@ fn write_pieces(file: &[u8], pieces: &mut [u8], size: usize, last: Reader)
     ensures { pieces.new ≡ atlas_of (font_of file.now) ++ mapping_of (font_of file.now) }
 {
     glyphs::clear(&mut pieces[0..size]);
-    file::pass(file, pieces, size, true);
+    let _ = file::pass(file, pieces, size, true);
 }
 
 // Writes its font.
@@ -55,32 +49,28 @@ fn write_font(file: &[u8], font: &mut [u8], size: usize, last: Reader)
     write_pieces(file, &mut font[28..], size, last);
 }
 
-// Writes its font, if the output is long enough.
-fn write(file: &[u8], output: &mut [u8], last: Reader) -> Outcome
+// Writes its font, if the output is long enough: the length of the font.
+fn write(file: &[u8], output: &mut [u8], last: Reader) -> Result<u32, Refusal>
     requires { IsMeasured file.now last }
-    ensures value { result ≡ outcome file.now (length output.old) }
+    ensures code { refusal_of result ≡ read_code file.now (length output.old) }
+    ensures font_length { IfOk result (λ n. n ≡ length (font_bytes (font_of file.now))) }
     ensures output_after { output.new ≡ written file.now output.old }
 {
     let size = atlas_size(last);
     let end = 28 + size + last.mapping as usize;
     if output.len() < end {
-        return Outcome::Refused(17);
+        return Err(Refusal::OutputTooShort);
     }
     write_font(file, &mut output[0..end], size, last);
-    Outcome::Written(end as u32)
+    Ok(end as u32)
 }
 
-// Reads a font file and writes its font: record, atlas and mapping.
-pub fn read(file: &[u8], output: &mut [u8]) -> Outcome
-    ensures value { result ≡ outcome file.now (length output.old) }
+// Reads a font file and writes its font, record, atlas and mapping: the length of the font.
+pub fn read(file: &[u8], output: &mut [u8]) -> Result<u32, Refusal>
+    ensures code { refusal_of result ≡ read_code file.now (length output.old) }
+    ensures font_length { IfOk result (λ n. n ≡ length (font_bytes (font_of file.now))) }
     ensures output_after { output.new ≡ written file.now output.old }
 {
-    match file::pass(file, &mut output[0..0], 0, false) {
-        Measured::Refused(n) => {
-            return Outcome::Refused(n);
-        }
-        Measured::Good(last) => {
-            return write(file, output, last);
-        }
-    }
+    let last = file::pass(file, &mut output[0..0], 0, false)?;
+    write(file, output, last)
 }

@@ -4,11 +4,12 @@ ghost use Rattle.bdf_lines.specs.Keywords.{start_properties, chars};
 ghost use Rattle.bdf.specs.declared.reader.Expected.TheVariants.{Property, Glyph, Attributes, Rows};
 ghost use Rattle.bdf_lines.specs.Words.{words, count_of};
 ghost use Rattle.bdf.specs.Within.{Within, IsBox};
-ghost use Rattle.bdf.specs.Reader.{origin, place, box, is_cell, is_in_cell, is_character, expecting, leaving, moved, counted, cell_line, properties_line, spelling_line, encoding_line, bbx_line, row_line, line_step, order, in_bitmap, start, step, refusal_of, after};
+ghost use Rattle.bdf.specs.Reader.{origin, place, box, is_cell, is_in_cell, is_character, expecting, leaving, moved, counted, cell_line, properties_line, spelling_line, encoding_line, bbx_line, row_line, line_step, in_bitmap, start, step, reader_of};
 
 use super::glyphs;
-use bdf_lines::values::{Count, Four, Number, Read, Row};
+use bdf_lines::values::{Four, Number};
 use bdf_lines::{values, words};
+use refusals::Refusal;
 
 // A box: its sides, and the offsets of its lower left corner, counted from −1,000,000,000.
 #[derive(Clone, Copy)]
@@ -64,70 +65,13 @@ pub struct Reader {
     pub read: u32,
 }
 
-// What a line does: it is refused, or it leads to another state, and may say a glyph's encoding, its BBX, or a line of its bitmap.
+// What a line does that is not refused: it leads to another state, and may say a glyph's encoding, its BBX, or a line of its bitmap.
 #[derive(Clone, Copy)]
 pub enum Answer {
-    Refused(u32),
     Passed(Reader),
     Boxed(Reader),
     Encoded(Reader, u32),
     Drawn(Reader, u64),
-}
-
-// The same reader, where the next line is another.
-pub fn expecting(reader: Reader, expected: Expected) -> Reader
-    ensures { result ≡ expecting expected reader }
-{
-    let cell = reader.cell;
-    let bbx = reader.bbx;
-    Reader {
-        expected,
-        left: reader.left,
-        cell,
-        bbx,
-        glyphs: reader.glyphs,
-        mapping: reader.mapping,
-        least: reader.least,
-        read: reader.read,
-    }
-}
-
-// The same, with so many property lines or glyphs to come.
-pub fn leaving(reader: Reader, expected: Expected, left: u64) -> Reader
-    ensures { result ≡ leaving expected left reader }
-{
-    let cell = reader.cell;
-    let bbx = reader.bbx;
-    Reader {
-        expected,
-        left,
-        cell,
-        bbx,
-        glyphs: reader.glyphs,
-        mapping: reader.mapping,
-        least: reader.least,
-        read: reader.read,
-    }
-}
-
-// A line that only has to stand there.
-fn moved(good: bool, reader: Reader, expected: Expected) -> Answer
-    ensures { result ≡ moved good expected reader }
-{
-    if good {
-        return Answer::Passed(expecting(reader, expected));
-    }
-    Answer::Refused(19)
-}
-
-// A line with a count.
-fn counted(count: Count, reader: Reader, expected: Expected) -> Answer
-    ensures { result ≡ counted count expected reader }
-{
-    let Count::Of(n) = count else {
-        return Answer::Refused(19);
-    };
-    Answer::Passed(leaving(reader, expected, n))
 }
 
 // An offset, counted from −1,000,000,000.
@@ -143,44 +87,44 @@ fn place(n: Number) -> u32
 }
 
 // The box of four numbers.
-fn box_of(w: Number, h: Number, x: Number, y: Number) -> BoundingBox
-    requires { IsBox w h x y }
-    ensures { result ≡ box w h x y }
+fn box_of(four: Four) -> BoundingBox
+    requires { IsBox four.width four.height four.x four.y }
+    ensures { result ≡ box four.width four.height four.x four.y }
 {
-    let width = w.size as u32;
-    let height = h.size as u32;
+    let width = four.width.size as u32;
+    let height = four.height.size as u32;
     BoundingBox {
         width,
         height,
-        x: place(x),
-        y: place(y),
+        x: place(four.x),
+        y: place(four.y),
     }
 }
 
 // Whether four numbers are a cell within the limits.
-fn is_cell(w: Number, h: Number, x: Number, y: Number) -> bool
-    ensures { result ≡ is_cell w h x y }
+fn is_cell(four: Four) -> bool
+    ensures { result ≡ is_cell four.width four.height four.x four.y }
 {
-    if w.negative {
+    if four.width.negative {
         return false;
     }
-    if h.negative {
+    if four.height.negative {
         return false;
     }
-    if 64 < w.size {
+    if 64 < four.width.size {
         return false;
     }
-    if 64 < h.size {
+    if 64 < four.height.size {
         return false;
     }
-    if 1000000000 < x.size {
+    if 1000000000 < four.x.size {
         return false;
     }
-    if 1000000000 < y.size {
+    if 1000000000 < four.y.size {
         return false;
     }
-    let height = h.size as u32;
-    height + place(y) <= 1000000256
+    let height = four.height.size as u32;
+    height + place(four.y) <= 1000000256
 }
 
 // Whether a side from a place on ends no later than another.
@@ -196,72 +140,33 @@ fn reaches(from: u32, side: u64, start: u32, other: u32) -> bool
 }
 
 // Whether four numbers are a box that lies in a cell.
-fn is_in_cell(cell: BoundingBox, w: Number, h: Number, x: Number, y: Number) -> bool
-    ensures { result ≡ is_in_cell cell w h x y }
+fn is_in_cell(cell: BoundingBox, four: Four) -> bool
+    ensures { result ≡ is_in_cell cell four.width four.height four.x four.y }
 {
-    if w.negative {
+    if four.width.negative {
         return false;
     }
-    if h.negative {
+    if four.height.negative {
         return false;
     }
-    if 1000000000 < x.size {
+    if 1000000000 < four.x.size {
         return false;
     }
-    if 1000000000 < y.size {
+    if 1000000000 < four.y.size {
         return false;
     }
-    let left = place(x);
-    let foot = place(y);
+    let left = place(four.x);
+    let foot = place(four.y);
     if left < cell.x {
         return false;
     }
-    if !reaches(left, w.size, cell.x, cell.width) {
+    if !reaches(left, four.width.size, cell.x, cell.width) {
         return false;
     }
     if foot < cell.y {
         return false;
     }
-    reaches(foot, h.size, cell.y, cell.height)
-}
-
-// FONTBOUNDINGBOX.
-fn cell_line(four: Four, reader: Reader) -> Answer
-    ensures { result ≡ cell_line four reader }
-{
-    let Four::Numbers(w, h, x, y) = four else {
-        return Answer::Refused(19);
-    };
-    if !is_cell(w, h, x, y) {
-        return Answer::Refused(20);
-    }
-    let cell = box_of(w, h, x, y);
-    let bbx = BoundingBox {
-        width: 0,
-        height: 0,
-        x: cell.x,
-        y: cell.y,
-    };
-    Answer::Passed(Reader {
-        expected: Expected::Properties,
-        left: reader.left,
-        cell,
-        bbx,
-        glyphs: reader.glyphs,
-        mapping: reader.mapping,
-        least: reader.least,
-        read: reader.read,
-    })
-}
-
-// STARTPROPERTIES, or else CHARS.
-fn properties_line(line: &[u8], reader: Reader) -> Answer
-    ensures { result ≡ properties_line (count_of start_properties (words line.now)) (count_of chars (words line.now)) reader }
-{
-    let Count::Of(n) = values::count_of(line, b"STARTPROPERTIES") else {
-        return counted(values::count_of(line, b"CHARS"), reader, Expected::Glyph);
-    };
-    Answer::Passed(leaving(reader, Expected::Property, n))
+    reaches(foot, four.height.size, cell.y, cell.height)
 }
 
 // Whether a number is that of a character.
@@ -277,325 +182,288 @@ fn is_character(n: Number) -> bool
     !characters::is_surrogate(n.size as u32)
 }
 
-// A glyph's character, put into the mapping.
-fn spelling_line(v: u32, reader: Reader) -> Answer
-    requires within { Within reader }
-    requires v_bound { v ≤ 0x10FFFF }
-    ensures { result ≡ spelling_line v reader }
-{
-    let mapping = reader.mapping + glyphs::spelled_length(v);
-    if 65535 < mapping {
-        return Answer::Refused(20);
-    }
-    let cell = reader.cell;
-    let bbx = reader.bbx;
-    let glyphs = reader.glyphs + 1;
-    let least = v + 1;
-    let read = 0;
-    Answer::Encoded(
+impl Reader {
+    // Before the first line.
+    pub fn start() -> Reader
+        ensures { result ≡ start }
+    {
+        let nowhere = BoundingBox {
+            width: 0,
+            height: 0,
+            x: 0,
+            y: 0,
+        };
         Reader {
+            expected: Expected::StartFont,
+            left: 0,
+            cell: nowhere,
+            bbx: nowhere,
+            glyphs: 0,
+            mapping: 0,
+            least: 0,
+            read: 0,
+        }
+    }
+
+    // The same reader, where the next line is another.
+    pub fn expecting(self, expected: Expected) -> Reader
+        ensures { result ≡ expecting expected self }
+    {
+        Reader { expected, ..self }
+    }
+
+    // The same, with so many property lines or glyphs to come.
+    pub fn leaving(self, expected: Expected, left: u64) -> Reader
+        ensures { result ≡ leaving expected left self }
+    {
+        Reader {
+            expected,
+            left,
+            ..self
+        }
+    }
+
+    // Whether a bitmap line is next.
+    pub fn in_bitmap(self) -> bool
+        ensures { result ≡ in_bitmap self }
+    {
+        match self.expected {
+            Expected::Rows => self.read < self.bbx.height,
+            _ => false,
+        }
+    }
+
+    // A line that only has to stand there.
+    fn moved(self, good: bool, expected: Expected) -> Result<Answer, Refusal>
+        ensures { result ≡ moved good expected self }
+    {
+        if good {
+            return Ok(Answer::Passed(self.expecting(expected)));
+        }
+        Err(Refusal::BdfLine)
+    }
+
+    // A line with a count.
+    fn counted(self, count: Option<u64>, expected: Expected) -> Result<Answer, Refusal>
+        ensures { result ≡ counted count expected self }
+    {
+        let Some(n) = count else {
+            return Err(Refusal::BdfLine);
+        };
+        Ok(Answer::Passed(self.leaving(expected, n)))
+    }
+
+    // FONTBOUNDINGBOX.
+    fn cell_line(self, four: Option<Four>) -> Result<Answer, Refusal>
+        ensures { result ≡ cell_line four self }
+    {
+        let Some(numbers) = four else {
+            return Err(Refusal::BdfLine);
+        };
+        if !is_cell(numbers) {
+            return Err(Refusal::BdfLimit);
+        }
+        let cell = box_of(numbers);
+        let bbx = BoundingBox {
+            width: 0,
+            height: 0,
+            x: cell.x,
+            y: cell.y,
+        };
+        Ok(Answer::Passed(Reader {
+            expected: Expected::Properties,
+            cell,
+            bbx,
+            ..self
+        }))
+    }
+
+    // STARTPROPERTIES, or else CHARS.
+    fn properties_line(self, line: &[u8]) -> Result<Answer, Refusal>
+        ensures { result ≡ properties_line (count_of start_properties (words line.now)) (count_of chars (words line.now)) self }
+    {
+        let Some(n) = values::count_of(line, b"STARTPROPERTIES") else {
+            return self.counted(values::count_of(line, b"CHARS"), Expected::Glyph);
+        };
+        Ok(Answer::Passed(self.leaving(Expected::Property, n)))
+    }
+
+    // A glyph's character, put into the mapping.
+    fn spelling_line(self, v: u32) -> Result<Answer, Refusal>
+        requires within { Within self }
+        requires v_bound { v ≤ 0x10FFFF }
+        ensures { result ≡ spelling_line v self }
+    {
+        let mapping = self.mapping + glyphs::spelled_length(v);
+        if 65535 < mapping {
+            return Err(Refusal::BdfLimit);
+        }
+        let read = 0;
+        let next = Reader {
             expected: Expected::Swidth,
-            left: reader.left,
-            cell,
-            bbx,
-            glyphs,
+            glyphs: self.glyphs + 1,
             mapping,
-            least,
+            least: v + 1,
             read,
-        },
-        v,
-    )
-}
-
-// ENCODING.
-pub fn encoding_line(encoding: Read, reader: Reader) -> Answer
-    requires { Within reader }
-    ensures { result ≡ encoding_line encoding reader }
-{
-    let Read::Value(n) = encoding else {
-        return Answer::Refused(19);
-    };
-    if !is_character(n) {
-        return Answer::Refused(21);
+            ..self
+        };
+        Ok(Answer::Encoded(next, v))
     }
-    if n.size < reader.least as u64 {
-        return Answer::Refused(21);
-    }
-    spelling_line(n.size as u32, reader)
-}
 
-// BBX.
-pub fn bbx_line(four: Four, reader: Reader) -> Answer
-    requires { Within reader }
-    ensures { result ≡ bbx_line four reader }
-{
-    let Four::Numbers(w, h, x, y) = four else {
-        return Answer::Refused(19);
-    };
-    let cell = reader.cell;
-    if !is_in_cell(cell, w, h, x, y) {
-        return Answer::Refused(20);
+    // ENCODING.
+    pub fn encoding_line(self, encoding: Option<Number>) -> Result<Answer, Refusal>
+        requires { Within self }
+        ensures { result ≡ encoding_line encoding self }
+    {
+        let Some(n) = encoding else {
+            return Err(Refusal::BdfLine);
+        };
+        if !is_character(n) {
+            return Err(Refusal::BdfEncoding);
+        }
+        if n.size < self.least as u64 {
+            return Err(Refusal::BdfEncoding);
+        }
+        self.spelling_line(n.size as u32)
     }
-    let bbx = box_of(w, h, x, y);
-    Answer::Boxed(Reader {
-        expected: Expected::Attributes,
-        left: reader.left,
-        cell,
-        bbx,
-        glyphs: reader.glyphs,
-        mapping: reader.mapping,
-        least: reader.least,
-        read: reader.read,
-    })
-}
 
-// A bitmap line.
-pub fn row_line(row: Row, reader: Reader) -> Answer
-    requires { reader.read < 64 }
-    ensures { result ≡ row_line row reader }
-{
-    let Row::Bits(bits) = row else {
-        return Answer::Refused(19);
-    };
-    let cell = reader.cell;
-    let bbx = reader.bbx;
-    Answer::Drawn(
-        Reader {
+    // BBX.
+    pub fn bbx_line(self, four: Option<Four>) -> Result<Answer, Refusal>
+        requires { Within self }
+        ensures { result ≡ bbx_line four self }
+    {
+        let Some(numbers) = four else {
+            return Err(Refusal::BdfLine);
+        };
+        if !is_in_cell(self.cell, numbers) {
+            return Err(Refusal::BdfLimit);
+        }
+        Ok(Answer::Boxed(Reader {
+            expected: Expected::Attributes,
+            bbx: box_of(numbers),
+            ..self
+        }))
+    }
+
+    // A bitmap line.
+    fn row_line(self, row: Option<u64>) -> Result<Answer, Refusal>
+        requires { self.read < 64 }
+        ensures { result ≡ row_line row self }
+    {
+        let Some(bits) = row else {
+            return Err(Refusal::BdfLine);
+        };
+        let next = Reader {
             expected: Expected::Rows,
-            left: reader.left,
-            cell,
-            bbx,
-            glyphs: reader.glyphs,
-            mapping: reader.mapping,
-            least: reader.least,
-            read: reader.read + 1,
-        },
-        bits,
-    )
-}
-
-// A property, or ENDPROPERTIES.
-fn property_line(line: &[u8], reader: Reader) -> Answer
-    ensures { result ≡ line_step Property reader line.now (words line.now) }
-{
-    let left = reader.left;
-    if left == 0 {
-        return moved(
-            words::is_alone(line, b"ENDPROPERTIES"),
-            reader,
-            Expected::Chars,
-        );
+            read: self.read + 1,
+            ..self
+        };
+        Ok(Answer::Drawn(next, bits))
     }
-    Answer::Passed(leaving(reader, Expected::Property, left - 1))
-}
 
-// STARTCHAR, or ENDFONT.
-fn glyph_line(line: &[u8], reader: Reader) -> Answer
-    ensures { result ≡ line_step Glyph reader line.now (words line.now) }
-{
-    let left = reader.left;
-    if left == 0 {
-        return moved(words::is_alone(line, b"ENDFONT"), reader, Expected::Nothing);
-    }
-    let one_less = leaving(reader, Expected::Glyph, left - 1);
-    moved(
-        words::is_named(line, b"STARTCHAR"),
-        one_less,
-        Expected::Encoding,
-    )
-}
-
-// ATTRIBUTES, or BITMAP.
-fn attributes_line(line: &[u8], reader: Reader) -> Answer
-    ensures { result ≡ line_step Attributes reader line.now (words line.now) }
-{
-    if values::is_attributes(line) {
-        return Answer::Passed(expecting(reader, Expected::Bitmap));
-    }
-    moved(words::is_alone(line, b"BITMAP"), reader, Expected::Rows)
-}
-
-// A bitmap line, or ENDCHAR.
-fn bitmap_line(line: &[u8], reader: Reader) -> Answer
-    requires { Within reader }
-    ensures { result ≡ line_step Rows reader line.now (words line.now) }
-{
-    let bbx = reader.bbx;
-    if reader.read < bbx.height {
-        let table = values::digit_values();
-        return row_line(values::row_of(line, bbx.width, &table), reader);
-    }
-    moved(words::is_alone(line, b"ENDCHAR"), reader, Expected::Glyph)
-}
-
-// What the line that is expected does.
-fn line_step(line: &[u8], reader: Reader) -> Answer
-    requires { Within reader }
-    ensures { result ≡ line_step reader.expected reader line.now (words line.now) }
-{
-    let expected = reader.expected;
-    match expected {
-        Expected::StartFont => {
-            return moved(
-                words::is_pair(line, b"STARTFONT", b"2.1"),
-                reader,
-                Expected::Font,
-            );
+    // A property, or ENDPROPERTIES.
+    fn property_line(self, line: &[u8]) -> Result<Answer, Refusal>
+        ensures { result ≡ line_step Property self line.now (words line.now) }
+    {
+        let left = self.left;
+        if left == 0 {
+            return self.moved(words::is_alone(line, b"ENDPROPERTIES"), Expected::Chars);
         }
-        Expected::Font => {
-            return moved(words::is_named(line, b"FONT"), reader, Expected::Size);
+        Ok(Answer::Passed(self.leaving(Expected::Property, left - 1)))
+    }
+
+    // STARTCHAR, or ENDFONT.
+    fn glyph_line(self, line: &[u8]) -> Result<Answer, Refusal>
+        ensures { result ≡ line_step Glyph self line.now (words line.now) }
+    {
+        let left = self.left;
+        if left == 0 {
+            return self.moved(words::is_alone(line, b"ENDFONT"), Expected::Nothing);
         }
-        Expected::Size => {
-            return moved(
+        let one_less = self.leaving(Expected::Glyph, left - 1);
+        one_less.moved(words::is_named(line, b"STARTCHAR"), Expected::Encoding)
+    }
+
+    // ATTRIBUTES, or BITMAP.
+    fn attributes_line(self, line: &[u8]) -> Result<Answer, Refusal>
+        ensures { result ≡ line_step Attributes self line.now (words line.now) }
+    {
+        if values::is_attributes(line) {
+            return Ok(Answer::Passed(self.expecting(Expected::Bitmap)));
+        }
+        self.moved(words::is_alone(line, b"BITMAP"), Expected::Rows)
+    }
+
+    // A bitmap line, or ENDCHAR.
+    fn bitmap_line(self, line: &[u8]) -> Result<Answer, Refusal>
+        requires { Within self }
+        ensures { result ≡ line_step Rows self line.now (words line.now) }
+    {
+        let width = self.bbx.width;
+        if self.read < self.bbx.height {
+            return self.row_line(values::row_of(line, width));
+        }
+        self.moved(words::is_alone(line, b"ENDCHAR"), Expected::Glyph)
+    }
+
+    // What the line that is expected does.
+    fn line_step(self, line: &[u8]) -> Result<Answer, Refusal>
+        requires { Within self }
+        ensures { result ≡ line_step self.expected self line.now (words line.now) }
+    {
+        let expected = self.expected;
+        match expected {
+            Expected::StartFont => {
+                self.moved(words::is_pair(line, b"STARTFONT", b"2.1"), Expected::Font)
+            }
+            Expected::Font => self.moved(words::is_named(line, b"FONT"), Expected::Size),
+            Expected::Size => self.moved(
                 values::has_numbers(line, b"SIZE", 3),
-                reader,
                 Expected::FontBoundingBox,
-            );
+            ),
+            Expected::FontBoundingBox => self.cell_line(values::four_of(line, b"FONTBOUNDINGBOX")),
+            Expected::Properties => self.properties_line(line),
+            Expected::Property => self.property_line(line),
+            Expected::Chars => self.counted(values::count_of(line, b"CHARS"), Expected::Glyph),
+            Expected::Glyph => self.glyph_line(line),
+            Expected::Encoding => self.encoding_line(values::encoding_of(line)),
+            Expected::Swidth => {
+                self.moved(values::has_numbers(line, b"SWIDTH", 2), Expected::Dwidth)
+            }
+            Expected::Dwidth => self.moved(values::has_numbers(line, b"DWIDTH", 2), Expected::Bbx),
+            Expected::Bbx => self.bbx_line(values::four_of(line, b"BBX")),
+            Expected::Attributes => self.attributes_line(line),
+            Expected::Bitmap => self.moved(words::is_alone(line, b"BITMAP"), Expected::Rows),
+            Expected::Rows => self.bitmap_line(line),
+            Expected::Nothing => Err(Refusal::BdfLine),
         }
-        Expected::FontBoundingBox => {
-            return cell_line(values::four_of(line, b"FONTBOUNDINGBOX"), reader);
+    }
+
+    // What a line does.
+    pub fn step(self, line: &[u8]) -> Result<Answer, Refusal>
+        requires { Within self }
+        ensures { result ≡ step self line.now }
+    {
+        if self.in_bitmap() {
+            return self.line_step(line);
         }
-        Expected::Properties => {
-            return properties_line(line, reader);
+        if words::is_comment(line) {
+            return Ok(Answer::Passed(self));
         }
-        Expected::Property => {
-            return property_line(line, reader);
-        }
-        Expected::Chars => {
-            return counted(values::count_of(line, b"CHARS"), reader, Expected::Glyph);
-        }
-        Expected::Glyph => {
-            return glyph_line(line, reader);
-        }
-        Expected::Encoding => {
-            return encoding_line(values::encoding_of(line), reader);
-        }
-        Expected::Swidth => {
-            return moved(
-                values::has_numbers(line, b"SWIDTH", 2),
-                reader,
-                Expected::Dwidth,
-            );
-        }
-        Expected::Dwidth => {
-            return moved(
-                values::has_numbers(line, b"DWIDTH", 2),
-                reader,
-                Expected::Bbx,
-            );
-        }
-        Expected::Bbx => {
-            return bbx_line(values::four_of(line, b"BBX"), reader);
-        }
-        Expected::Attributes => {
-            return attributes_line(line, reader);
-        }
-        Expected::Bitmap => {
-            return moved(words::is_alone(line, b"BITMAP"), reader, Expected::Rows);
-        }
-        Expected::Rows => {
-            return bitmap_line(line, reader);
-        }
-        Expected::Nothing => {
-            return Answer::Refused(19);
-        }
+        self.line_step(line)
     }
 }
 
-// The lines in their order, by number.
-pub fn order_of(expected: Expected) -> u32
-    ensures { result ≡ order expected }
-{
-    match expected {
-        Expected::StartFont => 0,
-        Expected::Font => 1,
-        Expected::Size => 2,
-        Expected::FontBoundingBox => 3,
-        Expected::Properties => 4,
-        Expected::Property => 5,
-        Expected::Chars => 6,
-        Expected::Glyph => 7,
-        Expected::Encoding => 8,
-        Expected::Swidth => 9,
-        Expected::Dwidth => 10,
-        Expected::Bbx => 11,
-        Expected::Attributes => 12,
-        Expected::Bitmap => 13,
-        Expected::Rows => 14,
-        Expected::Nothing => 15,
-    }
-}
-
-// Whether a bitmap line is next.
-pub fn in_bitmap(reader: Reader) -> bool
-    ensures { result ≡ in_bitmap reader }
-{
-    let bbx = reader.bbx;
-    let expected = reader.expected;
-    if order_of(expected) != 14 {
-        return false;
-    }
-    reader.read < bbx.height
-}
-
-// What a line does.
-pub fn step(line: &[u8], reader: Reader) -> Answer
-    requires { Within reader }
-    ensures { result ≡ step reader line.now }
-{
-    if in_bitmap(reader) {
-        return line_step(line, reader);
-    }
-    if words::is_comment(line) {
-        return Answer::Passed(reader);
-    }
-    line_step(line, reader)
-}
-
-// Before the first line.
-pub fn start() -> Reader
-    ensures { result ≡ start }
-{
-    let nowhere = BoundingBox {
-        width: 0,
-        height: 0,
-        x: 0,
-        y: 0,
-    };
-    Reader {
-        expected: Expected::StartFont,
-        left: 0,
-        cell: nowhere,
-        bbx: nowhere,
-        glyphs: 0,
-        mapping: 0,
-        least: 0,
-        read: 0,
-    }
-}
-
-// The refusal of a line, or 0.
-pub fn refusal_of(answer: Answer) -> u32
-    ensures { result ≡ refusal_of answer }
-{
-    match answer {
-        Answer::Refused(n) => n,
-        Answer::Passed(_) => 0,
-        Answer::Boxed(_) => 0,
-        Answer::Encoded(_, _) => 0,
-        Answer::Drawn(_, _) => 0,
-    }
-}
-
-// The reader after a line.
-pub fn after(reader: Reader, answer: Answer) -> Reader
-    ensures { result ≡ after reader answer }
-{
-    match answer {
-        Answer::Refused(_) => reader,
-        Answer::Passed(next) => next,
-        Answer::Boxed(next) => next,
-        Answer::Encoded(next, _) => next,
-        Answer::Drawn(next, _) => next,
+impl Answer {
+    // The reader after a line.
+    pub fn reader(self) -> Reader
+        ensures { result ≡ reader_of self }
+    {
+        match self {
+            Answer::Passed(next) => next,
+            Answer::Boxed(next) => next,
+            Answer::Encoded(next, _) => next,
+            Answer::Drawn(next, _) => next,
+        }
     }
 }

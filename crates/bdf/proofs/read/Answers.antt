@@ -1,6 +1,7 @@
--- `read` meets its contract: the first pass writes nothing, and its refusal is the file's. Assumes nothing.
+-- `read` meets its contract: a file that is not measured is refused, and else its font is written. Assumes nothing.
 use borrow.Author.Rules.{rules}
-use Rattle.bdf.proofs.Fonts.{nothing_room, nothing_good, measured_is, file_refused, file_kept, outcome_kept, written_kept}
+use Rattle.std.proofs.lemmas.Result.{err_from_is_err_and}
+use Rattle.bdf.proofs.Fonts.{nothing_room, nothing_good, measured_is, file_refused, file_kept, code_kept, written_kept}
 use Rattle.bdf.proofs.read.Goals as goal
 
 pub pass-requires-clause-room : goal.pass-requires-clause-room
@@ -9,17 +10,17 @@ pass-requires-clause-room c = search nothing_room
 pub pass-requires-clause-file_value : goal.pass-requires-clause-file_value
 pass-requires-clause-file_value c = search nothing_good
 
-pub returns-in-Refused-clause-value : goal.returns-in-Refused-clause-value
-returns-in-Refused-clause-value c = search file_refused
-
-pub returns-in-Refused-clause-output_after : goal.returns-in-Refused-clause-output_after
-returns-in-Refused-clause-output_after c = file_kept _ c.pass.result c.pass.ensures.value c.in-Refused.n c.in-Refused.is _ c.pass.new.pieces (search rules)
-
 pub write-requires : goal.write-requires
-write-requires c = search measured_is
+write-requires c = search (measured_is, c.in_ok-last.was)
 
-pub returns-in-Good-clause-value : goal.returns-in-Good-clause-value
-returns-in-Good-clause-value c = search outcome_kept
+pub returns-clause-code : goal.returns-clause-code
+returns-clause-code c = search code_kept
 
-pub returns-in-Good-clause-output_after : goal.returns-in-Good-clause-output_after
-returns-in-Good-clause-output_after c = search written_kept
+pub returns-clause-output_after : goal.returns-clause-output_after
+returns-clause-output_after c = search written_kept
+
+pub returns-in_err-last-clause-code : goal.returns-in_err-last-clause-code
+returns-in_err-last-clause-code c = let p = err_from_is_err_and c.from_residual.result c.from_residual.ensures.1 in rw (p.1, p.2) (search (file_refused, c.in_err-last.was))
+
+pub returns-in_err-last-clause-output_after : goal.returns-in_err-last-clause-output_after
+returns-in_err-last-clause-output_after c = file_kept _ c.pass.result c.pass.ensures.value c.in_err-last.field-0.0 c.in_err-last.was _ c.pass.new.pieces (search rules)

@@ -1,9 +1,9 @@
--- `finished` meets its contract: the expected line is told by its number. Assumes nothing.
+-- `finished` meets its contract: lines may only end where no more are expected. Assumes nothing.
 use Rattle.bdf.proofs.Walks.{not_done, done}
 use Rattle.bdf.proofs.file.finished.Goals as goal
 
-pub returns-then-order_of-ne15 : goal.returns-then-order_of-ne15
-returns-then-order_of-ne15 c = search not_done
+pub returns-in-Nothing : goal.returns-in-Nothing
+returns-in-Nothing c = search done
 
-pub returns : goal.returns
-returns c = search done
+pub returns-in_default : goal.returns-in_default
+returns-in_default c = search (not_done, c.in_default.not-Nothing)

@@ -11,8 +11,8 @@ slice_bounds-without_return-end c = search end_reach
 pub returns-in_default : goal.returns-in_default
 returns-in_default c = (search line_is, search rules)
 
-pub overflow_sub-end : goal.overflow_sub-end
-overflow_sub-end c = search answer_fed
+pub overflow_sub-result : goal.overflow_sub-result
+overflow_sub-result c = search answer_fed
 
 pub returns : goal.returns
 returns c = (search answer_is, search answer_end)

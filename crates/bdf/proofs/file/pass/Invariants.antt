@@ -4,8 +4,8 @@ use Prim.Native.Nat.{◌-◌}
 use lib.ListN.{length}
 use Rattle.bdf.proofs.file.pass.Given as goal
 
-abbrev pub invariant-loop-to : goal.invariant-loop-to
-invariant-loop-to l = Passing l.file l.writing l.size l.initial.pieces l.reader l.at l.pieces
+abbrev pub invariant-loop-next : goal.invariant-loop-next
+invariant-loop-next l = Passing l.file l.writing l.size l.initial.pieces l.reader l.at l.pieces
 
-abbrev pub decreases-loop-to : goal.decreases-loop-to
-decreases-loop-to l = length l.file - l.at
+abbrev pub decreases-loop-next : goal.decreases-loop-next
+decreases-loop-next l = length l.file - l.at

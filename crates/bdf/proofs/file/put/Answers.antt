@@ -1,5 +1,5 @@
 -- `put` meets its contract: each answer is a case of the definition. Assumes nothing.
-use Rattle.bdf.proofs.Strips.{from_fits, to_fits, encoded_fits, drawn_fits, drawn_glyph, put_refused, put_passed, put_boxed, put_encoded, put_drawn}
+use Rattle.bdf.proofs.Strips.{from_fits, to_fits, encoded_fits, drawn_fits, drawn_glyph, put_passed, put_boxed, put_encoded, put_drawn}
 use Rattle.bdf.proofs.file.put.Goals as goal
 
 pub overflow_add-from : goal.overflow_add-from
@@ -22,9 +22,6 @@ put_row-requires c = search drawn_fits
 
 pub returns-in-Drawn : goal.returns-in-Drawn
 returns-in-Drawn c = search put_drawn
-
-pub returns-in-Refused : goal.returns-in-Refused
-returns-in-Refused c = search put_refused
 
 pub returns-in-Passed : goal.returns-in-Passed
 returns-in-Passed c = search put_passed

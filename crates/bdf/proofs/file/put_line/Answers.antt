@@ -1,12 +1,13 @@
--- `put_line` meets its contract: the line is refused, or it puts what it says. Assumes nothing.
+-- `put_line` meets its contract: the line is refused, or it is put. Assumes nothing.
+use Rattle.std.proofs.lemmas.Result.{err_from_is_err_and}
 use Rattle.bdf.proofs.Passes.{line_fits, line_refused, line_over}
 use Rattle.bdf.proofs.file.put_line.Goals as goal
 
-pub returns-then-code-ne0 : goal.returns-then-code-ne0
-returns-then-code-ne0 c = search line_refused
+pub returns-in_err-answer : goal.returns-in_err-answer
+returns-in_err-answer c = let p = err_from_is_err_and c.from_residual.result c.from_residual.ensures.1 in rw (p.1, p.2) (search (line_refused, c.in_err-answer.was))
 
 pub put-requires-clause-answer_fits : goal.put-requires-clause-answer_fits
-put-requires-clause-answer_fits c = search line_fits
+put-requires-clause-answer_fits c = search (line_fits, c.in_ok-answer.was)
 
 pub returns : goal.returns
-returns c = search line_over
+returns c = search (line_over, c.in_ok-answer.was)

@@ -8,8 +8,8 @@ loop-j-init c = search bits_start
 pub loop-j-preserved : goal.loop-j-preserved
 loop-j-preserved c = search bits_step
 
-pub returns-then-end-j : goal.returns-then-end-j
-returns-then-end-j c = search bits_end
+pub returns-then-end-eq0 : goal.returns-then-end-eq0
+returns-then-end-eq0 c = search bits_end
 
 pub returns : goal.returns
 returns c = search bits_last

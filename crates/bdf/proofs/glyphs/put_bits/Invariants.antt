@@ -1,11 +1,6 @@
 -- `put_bits` meets its contract: at byte j the bytes before it have their bits, and the others are as they were. Assumes nothing.
-use Prim.Native.Nat.{◌-◌}
-use lib.ListN.{length}
 use Rattle.bdf.proofs.Bits.{BitsPut}
 use Rattle.bdf.proofs.glyphs.put_bits.Given as goal
 
 abbrev pub invariant-loop-j : goal.invariant-loop-j
 invariant-loop-j l = BitsPut l.left l.end l.bits l.j l.initial.row l.row
-
-abbrev pub decreases-loop-j : goal.decreases-loop-j
-decreases-loop-j l = length l.initial.row - l.j

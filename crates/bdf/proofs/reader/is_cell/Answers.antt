@@ -3,29 +3,29 @@ use Rattle.bdf.proofs.Steps.{chain, height_fits, cell_baseline}
 use Rattle.bdf.specs.Reader.{is_cell}
 use Rattle.bdf.proofs.reader.is_cell.Goals as goal
 
-pub returns-then-w : goal.returns-then-w
+pub returns-then-four : goal.returns-then-four
 unfolding is_cell
-returns-then-w c = search chain
+returns-then-four c = search chain
 
-pub returns-then-h : goal.returns-then-h
+pub returns-then-four-2 : goal.returns-then-four-2
 unfolding is_cell
-returns-then-h c = search chain
+returns-then-four-2 c = search chain
 
-pub returns-then-w-gt64 : goal.returns-then-w-gt64
+pub returns-then-four-gt64 : goal.returns-then-four-gt64
 unfolding is_cell
-returns-then-w-gt64 c = search chain
+returns-then-four-gt64 c = search chain
 
-pub returns-then-h-gt64 : goal.returns-then-h-gt64
+pub returns-then-four-gt64-2 : goal.returns-then-four-gt64-2
 unfolding is_cell
-returns-then-h-gt64 c = search chain
+returns-then-four-gt64-2 c = search chain
 
-pub returns-then-x-gt1000000000 : goal.returns-then-x-gt1000000000
+pub returns-then-four-gt1000000000 : goal.returns-then-four-gt1000000000
 unfolding is_cell
-returns-then-x-gt1000000000 c = search chain
+returns-then-four-gt1000000000 c = search chain
 
-pub returns-then-y-gt1000000000 : goal.returns-then-y-gt1000000000
+pub returns-then-four-gt1000000000-2 : goal.returns-then-four-gt1000000000-2
 unfolding is_cell
-returns-then-y-gt1000000000 c = search chain
+returns-then-four-gt1000000000-2 c = search chain
 
 pub overflow_add-result : goal.overflow_add-result
 overflow_add-result c = search height_fits

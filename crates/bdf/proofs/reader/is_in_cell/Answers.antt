@@ -3,21 +3,21 @@ use Rattle.bdf.proofs.Steps.{chain, left_of_cell, right_of_cell, below_cell, abo
 use Rattle.bdf.specs.Reader.{is_in_cell}
 use Rattle.bdf.proofs.reader.is_in_cell.Goals as goal
 
-pub returns-then-w : goal.returns-then-w
+pub returns-then-four : goal.returns-then-four
 unfolding is_in_cell
-returns-then-w c = search chain
+returns-then-four c = search chain
 
-pub returns-then-h : goal.returns-then-h
+pub returns-then-four-2 : goal.returns-then-four-2
 unfolding is_in_cell
-returns-then-h c = search chain
+returns-then-four-2 c = search chain
 
-pub returns-then-x-gt1000000000 : goal.returns-then-x-gt1000000000
+pub returns-then-four-gt1000000000 : goal.returns-then-four-gt1000000000
 unfolding is_in_cell
-returns-then-x-gt1000000000 c = search chain
+returns-then-four-gt1000000000 c = search chain
 
-pub returns-then-y-gt1000000000 : goal.returns-then-y-gt1000000000
+pub returns-then-four-gt1000000000-2 : goal.returns-then-four-gt1000000000-2
 unfolding is_in_cell
-returns-then-y-gt1000000000 c = search chain
+returns-then-four-gt1000000000-2 c = search chain
 
 pub returns-then-left-cell : goal.returns-then-left-cell
 unfolding is_in_cell

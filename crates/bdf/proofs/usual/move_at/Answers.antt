@@ -1,22 +1,24 @@
--- `move_at` meets its contract: the expected line is told by its number. Assumes nothing.
-use Rattle.bdf.proofs.Walks.{order_tells}
-use Rattle.bdf.proofs.Moves.{move_none}
+-- `move_at` meets its contract: each line that is expected has its law. Assumes nothing.
+use Rattle.bdf.proofs.Moves.{move_none, scalable_on, device_on, bitmap_on}
 use Rattle.bdf.proofs.usual.move_at.Goals as goal
 
-pub glyph_move-requires-clause-expected_value : goal.glyph_move-requires-clause-expected_value
-glyph_move-requires-clause-expected_value c = search order_tells
+pub returns-in_err-to-in-Swidth : goal.returns-in_err-to-in-Swidth
+returns-in_err-to-in-Swidth c = rw c.from_residual.ensures (search move_none)
 
-pub scalable_move-requires-clause-expected_value : goal.scalable_move-requires-clause-expected_value
-scalable_move-requires-clause-expected_value c = search order_tells
+pub returns-in_ok-to-in-Swidth : goal.returns-in_ok-to-in-Swidth
+returns-in_ok-to-in-Swidth c = search (scalable_on, c.in_ok-to-in-Swidth.was)
 
-pub device_move-requires-clause-expected_value : goal.device_move-requires-clause-expected_value
-device_move-requires-clause-expected_value c = search order_tells
+pub returns-in_err-to-in-Dwidth : goal.returns-in_err-to-in-Dwidth
+returns-in_err-to-in-Dwidth c = rw c.from_residual-in_err-to-in-Dwidth.ensures (search move_none)
 
-pub bitmap_move-requires-clause-expected_value : goal.bitmap_move-requires-clause-expected_value
-bitmap_move-requires-clause-expected_value c = search order_tells
+pub returns-in_ok-to-in-Dwidth : goal.returns-in_ok-to-in-Dwidth
+returns-in_ok-to-in-Dwidth c = search (device_on, c.in_ok-to-in-Dwidth.was)
 
-pub end_move-requires-clause-expected_value : goal.end_move-requires-clause-expected_value
-end_move-requires-clause-expected_value c = search order_tells
+pub returns-in_err-to-in-Attributes : goal.returns-in_err-to-in-Attributes
+returns-in_err-to-in-Attributes c = rw c.from_residual-in_err-to-in-Attributes.ensures (search move_none)
 
-pub returns : goal.returns
-returns c = search move_none
+pub returns-in_ok-to-in-Attributes : goal.returns-in_ok-to-in-Attributes
+returns-in_ok-to-in-Attributes c = search (bitmap_on, c.in_ok-to-in-Attributes.was)
+
+pub returns-in_default : goal.returns-in_default
+returns-in_default c = search move_none
