@@ -121,17 +121,16 @@ module _ (file : List ℕ) (at : ℕ) where
 
 -- ---- `row_at`
 
-module _ (file : List ℕ) (at width : ℕ) where
-  pub row_none : RowFound file at width None
+module _ (text : List ℕ) (width : ℕ) where
+  pub row_none : RowFound text 0 width None
   row_none = record { found = λ bits stop e. absurd (not_some (bits, stop) e) }
 
   abbrev to : ℕ
-  to = at + 2 * ((width + 7) / 8)
+  to = 2 * ((width + 7) / 8)
 
-  module _ (bits end : ℕ) (x : Option ℕ) (y : Option ℕ) (more : 2 * ((width + 7) / 8) < length file - at) (g : FeedFound file to y) (u : y ≡ Some end)
-      (q : x ≡ row_of width (take (to - at) (drop at file))) (t : x ≡ Some bits) where
+  module _ (bits end : ℕ) (x : Option ℕ) (y : Option ℕ) (more : to < length text) (g : FeedFound text to y) (u : y ≡ Some end) (q : x ≡ row_of width (take to text)) (t : x ≡ Some bits) where
     digits : List ℕ
-    digits = take (to - at) (drop at file)
+    digits = take to text
 
     is-row : is_row width digits ≡ true
     unfolding digits row_of
@@ -145,39 +144,33 @@ module _ (file : List ℕ) (at width : ℕ) where
     unfolding is_row
     are-hex = ((and-eq-true_iff (eqb (length digits) (2 * ((width + 7) / 8))) (are_hex digits)).0 is-row).1
 
-    line-goes-on : line_length (drop at file) ≡ to - at + line_length (drop to file)
+    line-goes-on : line_length text ≡ to + line_length (drop to text)
     unfolding digits
-    line-goes-on =
-        let n : at + (to - at) ≡ to = omega arith in
-        let d : drop (to - at) (drop at file) ≡ drop to file = drop-drop (to - at) at file ∙ ap (λ (k : ℕ). drop k file) n in
-        rw d at (hex_line (to - at) (drop at file) are-hex (rw length-drop (omega arith)))
+    line-goes-on = hex_line to text are-hex (omega arith)
 
-    feed : IsFeedAt file to end
+    feed : IsFeedAt text to end
     feed = g.found end u
 
-    line-ends : end ≡ at + line_length (drop at file)
+    line-ends : end ≡ line_length text
     line-ends = go feed.place
       where
-        go : (end ≡ to) ⊎ ((end ≡ to + 1) × (get_or file to 0 ≡ 0x0D)) → end ≡ at + line_length (drop at file)
-        go (inl e) = omega (arith, line-goes-on, feed-line file to (omega arith) (rw e at feed.feed))
-        go (inr (e, r)) = omega (arith, line-goes-on, return-line file to (omega arith) r, feed-line file (to + 1) (rw e at feed.inside) (rw e at feed.feed))
+        go : (end ≡ to) ⊎ ((end ≡ to + 1) × (get_or text to 0 ≡ 0x0D)) → end ≡ line_length text
+        go (inl e) = omega (arith, line-goes-on, feed-line text to (omega arith) (rw e at feed.feed))
+        go (inr (e, r)) = omega (arith, line-goes-on, return-line text to (omega arith) r, feed-line text (to + 1) (rw e at feed.inside) (rw e at feed.feed))
 
-    line-digits : line_at file at ≡ digits
+    line-digits : line_at text 0 ≡ digits
     unfolding digits
-    line-digits = ap without_return (sym (line_part file at end line-ends)) ∙ go feed.place
+    line-digits = ap without_return (sym (line_part text 0 end (omega (arith, line-ends)))) ∙ go feed.place
       where
-        go : (end ≡ to) ⊎ ((end ≡ to + 1) × (get_or file to 0 ≡ 0x0D)) → without_return (take (end - at) (drop at file)) ≡ digits
-        go (inl e) = rw e (sym (return_absent digits (hex_no_return digits are-hex (length digits - 1))))
-        go (inr (e, r)) =
-            let n : end - at ≡ to - at + 1 = omega arith in
-            let m : at + (to - at) ≡ to = omega arith in
-            rw n (return-cut (drop at file) (to - at) (rw length-drop (omega arith)) (get_or-drop at file (to - at) 0 ∙ rw m r))
+        go : (end ≡ to) ⊎ ((end ≡ to + 1) × (get_or text to 0 ≡ 0x0D)) → without_return (take (end - 0) text) ≡ digits
+        go (inl e) = let n : end - 0 ≡ to = omega arith in rw n (sym (return_absent digits (hex_no_return digits are-hex (length digits - 1))))
+        go (inr (e, r)) = let n : end - 0 ≡ to + 1 = omega arith in rw n (return-cut text to more r)
 
-    pub row_found : RowFound file at width (Some (bits, end))
+    pub row_found : RowFound text 0 width (Some (bits, end))
     unfolding digits
     row_found = record {
       found = λ v e p. rw (← (found_is bits v end e p).0, ← (found_is bits v end e p).1) (record {
-        ends = line-ends;
+        ends = omega (arith, line-ends);
         more = feed.inside;
         bitmap = ap (row_of width) line-digits ∙ sym q ∙ t;
       });

@@ -38,16 +38,16 @@ module _ (file : List ℕ) (at : ℕ) (bytes : List ℕ) where
   pub bytes_none : BytesFound file at bytes None
   bytes_none = record { found = λ to e. absurd (not_some to e) }
 
-  -- r is what `starts_with` says
-  pub bytes_found : (r : Bool) → at ≤ length file → r ≡ pointwise eqb bytes (take (length bytes) (take (length file - at) (drop at file))) → r ≡ true → BytesFound file at bytes (Some (at + length bytes))
-  bytes_found r inside same is =
-      let starts : drop at file ≡ bytes ++ drop (length bytes) (drop at file) = (starts_is Decides-eqb (drop at file) bytes r (rw (take_all (length file - at) (drop at file) (omega (arith, length-drop at file))) at same)).0 is in
-      record {
-        found = λ to e. rw (← at_is (at + length bytes) to e) (record {
-          here = starts ∙ ap (λ (t : List ℕ). bytes ++ t) (drop-drop (length bytes) at file);
-          inside = omega (arith, length-drop at file, ap length starts, length-append bytes (drop (length bytes) (drop at file)));
-        });
-      }
+-- r is what `starts_with` says
+pub bytes_found : (text bytes : List ℕ) (r : Bool) → r ≡ pointwise eqb bytes (take (length bytes) text) → r ≡ true → BytesFound text 0 bytes (Some (length bytes))
+bytes_found text bytes r same is =
+    let starts : text ≡ bytes ++ drop (length bytes) text = (starts_is Decides-eqb text bytes r same).0 is in
+    record {
+      found = λ to e. rw (← at_is (length bytes) to e) (record {
+        here = starts;
+        inside = omega (arith, ap length starts, length-append bytes (drop (length bytes) text));
+      });
+    }
 
 -- ---- `digits_to`: a turn at position i
 

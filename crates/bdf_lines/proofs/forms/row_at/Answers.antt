@@ -2,8 +2,8 @@
 use Rattle.bdf_lines.proofs.BitmapLines.{row_none, row_found}
 use Rattle.bdf_lines.proofs.forms.row_at.Goals as goal
 
-pub returns-then-file-at : goal.returns-then-file-at
-returns-then-file-at c = search row_none
+pub returns-then-text-digits : goal.returns-then-text-digits
+returns-then-text-digits c = search row_none
 
 pub returns-in_err-end : goal.returns-in_err-end
 returns-in_err-end c = rw c.from_residual.ensures (search row_none)
