@@ -11,7 +11,6 @@ ghost use Rattle.line.specs.Limits.{LengthLimit, PlaceLimits, CharacterLimits, C
 ghost use Rattle.line.specs.Lent.{lent, PreparedFor};
 
 use atlas::{Atlas, GlyphColors, ImageRaw};
-use characters::{Cursor, Step};
 pub use fonts::{Font, Metrics};
 use geometry::{Frame, Point, Rectangle};
 use mapping::Start;
@@ -246,24 +245,19 @@ impl<'a> PreparedLine<'a> {
         ensures next_value { result.next ≡ corner.x + spaced self.now.line.font.metrics.font (length (chars self.now.line.text.now)) }
         ensures replaced_value { result.replaced ≡ met_unlisted self.now.columns self.now.line.font.metrics.font self.now.line.font.mapping.now 0 (chars self.now.line.text.now) corner.x }
     {
-        let text = self.line.text;
         let font = self.line.font.metrics.font;
         let width = font.atlas.cell_size.width;
         let spacing = font.character_spacing;
-        let mut c = Cursor { at: 0 };
         let mut x = corner.x;
         let mut gap: u32 = 0;
         let mut replaced: u32 = 0;
-        loop {
-            let Step::Character(ch, after) = characters::next(text, c) else {
-                return DrawnLine { next: x, replaced };
-            };
+        for ch in characters::chars(self.line.text) {
             let at = Point { x, y: corner.y };
             replaced = self.draw_character(frame, at, gap, ch, replaced);
             x = x + gap + width;
             gap = spacing;
-            c = after;
         }
+        DrawnLine { next: x, replaced }
     }
 }
 
