@@ -119,10 +119,6 @@ whole_part k bits text background xs part n e =
     (λ i grey l. let z : 0 + 0 + i ≡ i = omega arith in rw z) in
     row_end (bit_row bits text background) 0 k xs _ p (omega (arith, p.size))
 
--- past the last part of eight pixels
-pub parts_end : (f : ℕ → ℕ → ℕ) (x k : ℕ) (xs row : List ℕ) → FirstPainted f x (k * 8) xs row → length xs / 8 ≤ k → FirstPainted f x (length xs / 8 * 8) xs row
-parts_end f x k xs row p past = let e : k * 8 ≡ length xs / 8 * 8 = omega (arith, p.reach) in rw e at p
-
 -- a loop over a row, drawn in parts from the bits at their first pixel
 module _ (bytes : List ℕ) (stride x y n m bits : ℕ) (text background : Option ℕ) (xs row part : List ℕ) (small : (k : ℕ) → Fits w8 (get_or bytes k 0))
     (s : SubImage stride x y (length xs) 1 m) (p : FirstPainted (image_row bytes stride y text background) x n xs row) (e : bits ≡ bits_at bytes stride (x + n) y) where
@@ -134,13 +130,13 @@ module _ (bytes : List ℕ) (stride x y n m bits : ℕ) (text background : Optio
       (λ i grey h. rw e (bit_row_lem bytes small stride (x + n) y text background i grey (omega arith) (omega (arith, s.right))))
 
   -- eight pixels
-  pub eight_step : (k : ℕ) → n ≡ k * 8 → k < length xs / 8 → part ≡ map_indexed (bit_row bits text background) 0 (take (n + 8 - n) (drop n row))
-      → FirstPainted (image_row bytes stride y text background) x ((k + 1) * 8) xs (put_mid n (n + 8 - n) row part)
-  eight_step k at less ep = let e : (k + 1) * 8 ≡ n + 8 = omega arith in rw e (part_step (n + 8) (omega arith) (omega arith) (omega arith) ep)
+  pub eight_step : 8 ≤ length row - n → part ≡ map_indexed (bit_row bits text background) 0 (take (n + 8 - n) (drop n row))
+      → FirstPainted (image_row bytes stride y text background) x (n + 8) xs (put_mid n (n + 8 - n) row part)
+  eight_step h ep = part_step (n + 8) (omega arith) (omega arith) (omega arith) ep
 
   -- the rest, fewer than eight
-  pub rest_step : n ≡ length xs / 8 * 8 → part ≡ map_indexed (bit_row bits text background) 0 (take (length xs - n) (drop n row))
-      → put_mid n (length xs - n) row part ≡ map_indexed (image_row bytes stride y text background) x xs
+  pub rest_step : length row - n < 8 → part ≡ map_indexed (bit_row bits text background) 0 (take (length row - n) (drop n row))
+      → put_mid n (length row - n) row part ≡ map_indexed (image_row bytes stride y text background) x xs
   rest_step h ep =
-      let q = part_step (length xs) (omega arith) (omega arith) (omega arith) ep in
-      row_end (image_row bytes stride y text background) x (length xs) xs _ q (omega (arith, q.size))
+      let q = part_step (length row) (omega arith) (omega arith) (omega arith) ep in
+      row_end (image_row bytes stride y text background) x (length row) xs _ q (omega (arith, q.size))

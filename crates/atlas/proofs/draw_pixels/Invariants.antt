@@ -4,4 +4,4 @@ use Rattle.atlas.specs.Row.{bit_row}
 use Rattle.atlas.proofs.draw_pixels.Given as goal
 
 abbrev pub invariant-loop-i : goal.invariant-loop-i
-invariant-loop-i l = FirstPainted (bit_row l.bits l.colors.text l.colors.background) 0 l.i l.initial.row l.row
+invariant-loop-i l = FirstPainted (bit_row l.bits l.text l.background) 0 l.i l.initial.row l.row

@@ -5,13 +5,13 @@ use Rattle.geometry.proofs.Fills.{fill_whole_rows, fill_step}
 use Rattle.geometry.proofs.filling.fill_area.Goals as goal
 
 pub returns-then-area-fw : goal.returns-then-area-fw
-returns-then-area-fw c = fill_whole_rows _ _ _ _ _ c.requires c.if-area-fw.true (c.fill.ensures.after (λ y e. e))
+returns-then-area-fw c = fill_whole_rows _ _ _ _ _ c.requires c.if-area-fw.true c.fill_row.ensures
 
 pub loop-k-init : goal.loop-k-init
 loop-k-init c = search rows_start
 
 pub loop-k-preserved : goal.loop-k-preserved
-loop-k-preserved c = fill_step _ _ _ _ _ _ _ c.requires c.loop-k.invariant c.loop-k-test.true (c.fill-in-loop-k.ensures.after (λ y e. e))
+loop-k-preserved c = fill_step _ _ _ _ _ _ _ c.requires c.loop-k.invariant c.loop-k-test.true c.fill_row-in-loop-k.ensures
 
 pub returns : goal.returns
 unfolding filled
