@@ -4,14 +4,12 @@ use native.Mathlib.Omega.{arith}
 use mathlib.Core.Path.{◌≡◌, refl, sym, ◌∙◌}
 use mathlib.Core.Bool.{Bool, true, false, cond, true≢false}
 use mathlib.Core.List.{List, [], ◌∷◌}
-use lib.Dec.{leb}
 use borrow.Author.Tests.{leb-true}
 use Rattle.geometry.specs.declared.Rectangle.{Rectangle}
 use Rattle.geometry.specs.declared.DrawTarget.{DrawTarget}
 use Rattle.geometry.specs.Canvas.{paint_on}
-use Rattle.line.specs.declared.Baseline.{Baseline}
 use Rattle.line.specs.declared.MonoFont.{MonoFont}
-use Rattle.line.specs.Line.{Font, baseline_offset, top_edge}
+use Rattle.line.specs.Line.{Font, top_edge}
 use Rattle.line.specs.Line
 use Rattle.line.proofs.Painting.{paint_unseen}
 use Rattle.text.specs.declared.TextStyle.{TextStyle}
@@ -35,22 +33,9 @@ module _ (f : Font) (t : Text) where
       let h = leb-true target.clip_area.height (top_edge f.mono t.text_style.baseline y - target.clip_area.top) e in
       paint_unseen target _ xs (λ c r grey i. lines-above ls y c r grey (omega arith))
 
--- ---- `starts_below` and `is_left_out`
-
-pub below_tested : (clip : Rectangle) (m : MonoFont) (b : Baseline) (y offset top room : ℕ) → offset ≡ baseline_offset m b → top ≡ y - offset → room ≡ top - clip.top
-    → leb clip.height room ≡ is_below clip (top_edge m b y)
-unfolding is_below
-below_tested clip m b y offset top room eo et er = rw (er, et, eo)
+-- ---- `is_left_out`
 
 module _ (clip : Rectangle) (m : MonoFont) (t : TextStyle) (y : ℕ) (replies : Bool) where
-  pub left_asked : replies ≡ true → false ≡ is_left_out clip m t y replies
-  unfolding is_left_out
-  left_asked e = rw e
-
-  pub left_below : (below : Bool) → replies ≡ false → below ≡ is_below clip (top_edge m t.baseline y) → below ≡ is_left_out clip m t y replies
-  unfolding is_left_out
-  left_below below e eb = rw e eb
-
   -- what a line that is left out tells
   module _ (left : Bool) (el : left ≡ is_left_out clip m t y replies) (holds : left ≡ true) where
     both : (replies ≡ false) × (is_below clip (top_edge m t.baseline y) ≡ true)

@@ -3,7 +3,7 @@ use Prim.Native.Nat.{ℕ, suc, ◌+◌, ◌-◌, ◌*◌, ◌≤◌, ◌<◌}
 use native.Mathlib.Nat.{mul-le-mul, mul-le-mul_right}
 use native.Mathlib.Omega.{arith}
 use native.Mathlib.Numerals.{add-one}
-use mathlib.Core.Path.{◌≡◌, refl, ap}
+use mathlib.Core.Path.{◌≡◌, refl, ap, ◌∙◌}
 use mathlib.Core.Bool.{Bool, true, false, cond}
 use mathlib.Core.List.{List, [], ◌∷◌, map, Memᴰ}
 use lib.ListN.{length, drop, get_or, drop_of_length-le}
@@ -11,7 +11,7 @@ use lib.Seq.{drop-cons}
 use lib.Dec.{eqb, leb}
 use borrow.Author.Tests.{leb-true}
 use mir.Syntax.{w16, w32}
-use mir.Val.{Fits}
+use mir.Val.{Fits, bool_byte}
 use Rattle.geometry.specs.declared.Rectangle.{Rectangle}
 use Rattle.geometry.specs.Rectangle.{rectangle, is_empty, join, joins, intersection}
 use Rattle.geometry.proofs.Rectangles.{Within, join-within, joins-within, apart_within}
@@ -21,7 +21,7 @@ use Rattle.characters.proofs.Folds.{length-chars}
 use Rattle.characters.proofs.Feeds.{length-without_return}
 use Rattle.line.specs.declared.MonoFont.{MonoFont}
 use Rattle.line.specs.declared.MonoTextStyle.{MonoTextStyle}
-use Rattle.line.specs.Line.{character_width, spacing, baseline_offset, top_edge, measured_width, ink_rows}
+use Rattle.line.specs.Line.{character_width, spacing, top_edge, measured_width, ink_rows}
 use Rattle.line.specs.Line
 use Rattle.line.specs.Limits.{FontLimits}
 use Rattle.line.proofs.Advances.{advance_width}
@@ -32,7 +32,7 @@ use Rattle.text.specs.declared.LineHeight.{LineHeight}
 use Rattle.text.specs.declared.TextStyle.{TextStyle}
 use Rattle.text.specs.Text.{Text, text_of, aligned_start, line_height, place_line, place_lines, placed_lines, nowhere, line_ink, ink_box}
 use Rattle.text.specs.Lines.{feed_count, start_reach, is_below}
-use Rattle.text.specs.Limits.{TextLimits, HeightLimit, StartLimits}
+use Rattle.text.specs.Limits.{height_value, TextLimits}
 use Rattle.text.proofs.Exact.{length_line}
 use Rattle.text.proofs.Places.{height_small}
 
@@ -66,15 +66,6 @@ module _ (x w k : ℕ) (h : w ≤ k) where
   start-to Center = omega arith
   start-to Right = omega arith
 
-module _ (a : Alignment) (w r : ℕ) (e : r ≡ w + 1) where
-  pub reach_center : a ≡ Center → r ≡ start_reach a w
-  unfolding start_reach
-  reach_center h = rw h e
-
-  pub reach-right : a ≡ Right → r ≡ start_reach a w
-  unfolding start_reach
-  reach-right h = rw h e
-
 reach_near : (a : Alignment) (w : ℕ) → start_reach a w ≤ w + 1
 unfolding start_reach
 reach_near Left w = omega arith
@@ -82,7 +73,7 @@ reach_near Center w = omega arith
 reach_near Right w = omega arith
 
 -- the columns are found in 32 bits
-module _ (a : Alignment) (n x w r : ℕ) (limits : StartLimits n x) (small : w ≤ 1_048_576) (e : r ≡ start_reach a w) where
+module _ (a : Alignment) (n x y w r : ℕ) (h : LineHeight) (limits : TextLimits n x y h) (small : w ≤ 1_048_576) (e : r ≡ start_reach a w) where
   pub reach-fits : Fits w32 (x + r)
   reach-fits = omega (arith, reach_near a w)
 
@@ -130,6 +121,10 @@ one_small : (b : Bool) → cond b 1 0 ≤ 1
 one_small true = omega arith
 one_small false = omega arith
 
+bool_number : (b : Bool) → bool_byte b ≡ cond b 1 0
+bool_number true = refl
+bool_number false = refl
+
 -- the state of the loop: the feeds before i are counted
 pub record FeedsCounted (text : List ℕ) (i feeds : ℕ) : Type 0 where
   pub counted : feeds + feed_count (drop i text) ≡ feed_count text
@@ -137,16 +132,19 @@ pub record FeedsCounted (text : List ℕ) (i feeds : ℕ) : Type 0 where
   pub near : i ≤ length text
 
 module _ (text : List ℕ) (i feeds : ℕ) (s : FeedsCounted text i feeds) where
-  module _ (byte one : ℕ) (h : i < length text) (b : byte ≡ get_or text i 0) (e : one ≡ cond (eqb byte 0x0A) 1 0) where
+  module _ (one : ℕ) (h : i < length text) (e : one ≡ bool_byte (eqb (get_or text i 0) 0x0A)) where
+    feed_one : one ≡ cond (eqb (get_or text i 0) 0x0A) 1 0
+    feed_one = e ∙ bool_number (eqb (get_or text i 0) 0x0A)
+
     pub feeds_fit : length text ≤ 4_096 → Fits w16 (feeds + one)
-    feeds_fit short = omega (arith, one_small (eqb byte 0x0A), s.few)
+    feeds_fit short = omega (arith, feed_one, one_small (eqb (get_or text i 0) 0x0A), s.few)
 
     feed_here : feed_count (drop i text) ≡ one + feed_count (drop (i + 1) text)
     unfolding feed_count
-    feed_here = rw (add-one i, drop-cons text i 0 h, e, b)
+    feed_here = rw (add-one i, drop-cons text i 0 h, feed_one)
 
     pub feeds_more : FeedsCounted text (i + 1) (feeds + one)
-    feeds_more = record { counted = omega (arith, feed_here, s.counted); few = omega (arith, one_small (eqb byte 0x0A), s.few); near = omega arith }
+    feeds_more = record { counted = omega (arith, feed_here, s.counted); few = omega (arith, feed_one, one_small (eqb (get_or text i 0) 0x0A), s.few); near = omega arith }
 
   none_left : length text ≤ i → feed_count (drop i text) ≡ 0
   unfolding feed_count
@@ -169,14 +167,14 @@ module _ (m : MonoFont) (font : FontLimits m) (text : List ℕ) (short : length 
   pub width_fits : Fits w32 (length text * (character_width m + spacing m))
   width_fits = omega (arith, width_most)
 
-  module _ (h : LineHeight) (small : HeightLimit h) (feeds lower : ℕ) (ef : feeds ≡ feed_count text) (el : lower ≡ line_height m h) where
+  module _ (h : LineHeight) (small : height_value h ≤ 1_000) (feeds lower : ℕ) (ef : feeds ≡ feed_count text) (el : lower ≡ line_height m h) where
     pub span_is : feeds * lower ≡ feed_count text * line_height m h
     span_is = rw (ef, el)
 
     pub span_small : feeds * lower ≤ 4_194_304
     span_small =
         let p : feed_count text ≤ 4_096 = omega (arith, few_feeds text) in
-        let most : feed_count text * line_height m h ≤ 4_096_000 = mul-le-mul p (height_small m font h small.height_small) in
+        let most : feed_count text * line_height m h ≤ 4_096_000 = mul-le-mul p (height_small m font h small) in
         rw (ef, el) (omega (arith, most))
 
     pub span_fits : Fits w32 (feeds * lower)
@@ -229,7 +227,7 @@ module _ (m : MonoFont) (text : List ℕ) (x y : ℕ) (ts : TextStyle) (s : Mono
         let none = rectangle 0 0 0 0 in
         apart_within (ink_box m whole) none clip (joins-within none (line_ink m whole) (nowhere whole) (placed_lines m whole) (λ c r i. absurd (omega arith)) (λ l q c r i. absurd (omega arith))) (λ c r i j. omega arith)
 
-    module _ (offset edge top : ℕ) (eo : offset ≡ baseline_offset m ts.baseline) (ee : edge ≡ y - offset) (et : top ≡ edge + rows.top) where
+    module _ (edge top : ℕ) (ee : edge ≡ top_edge m ts.baseline y) (et : top ≡ edge + rows.top) where
       pub apart_first : (room : ℕ) → room ≡ top - clip.top → clip.height ≤ room → Apart clip
       apart_first room e h = let t = ap (λ (a : Rectangle). a.top) er in apart_within _ _ clip ink-within (λ c r i j. omega arith)
 

@@ -5,6 +5,8 @@ use mathlib.Core.Path.{◌≡◌, refl, sym, ap, ◌∙◌}
 use mathlib.Core.Bool.{Bool, true, false, cond}
 use mathlib.Core.List.{List, map}
 use lib.ListN.{length, drop}
+use mir.Syntax.{w32}
+use mir.Val.{Fits}
 use Rattle.geometry.specs.declared.Point.{Point}
 use Rattle.geometry.specs.declared.Rectangle.{Rectangle}
 use Rattle.geometry.specs.Rectangle.{rectangle, join, joins}
@@ -20,19 +22,22 @@ use Rattle.line.specs.Limits.{FontLimits}
 use Rattle.line.proofs.Advances.{width_small, advance_width}
 use Rattle.line.proofs.Ink.{rows_low}
 use Rattle.text.specs.declared.TextStyle.{TextStyle}
+use Rattle.text.specs.declared.texts.TextLayout.{TextLayout}
+use Rattle.text.specs.declared.texts.TextLine.{TextLine}
 use Rattle.text.specs.Text.{Text, text_of, line_height, place_line, place_lines, placed_lines, measured_box, bounding_box, line_ink, ink_box}
 use Rattle.text.specs.Lines.{line_corner, line_box, lines_box}
 use Rattle.text.specs.Limits.{TextLimits, LineLimits}
-use Rattle.text.proofs.Places.{LineStart, start-next, start_near, line_limits}
+use Rattle.text.specs.Lent.{line_text, placed_line}
+use Rattle.text.proofs.Places.{LineStart, start-next, start_near, line_limits, at_fits}
 
 -- ---- `line_box`: `corner` is the line's corner and `shown` its bytes without the return
 
-module _ (ink : Bool) (m : MonoFont) (s : MonoTextStyle) (t : TextStyle) (x y : ℕ) (line shown : List ℕ) (corner : Point) (r : Rectangle) (e : shown ≡ without_return line) (d : corner ≡ line_corner m t line x y) where
-  pub line_ink-box : ink ≡ true → r ≡ Line.ink_box m s (length (chars shown)) corner.x corner.y → r ≡ line_box ink m (text_of line x y s t) (place_line m (text_of line x y s t) line y)
+module _ (ink : Bool) (t : TextLayout) (l : TextLine) (shown : List ℕ) (corner : Point) (r : Rectangle) (e : shown ≡ without_return l.text.now) (d : corner ≡ line_corner t.metrics.font t.text_style l.text.now l.position.x l.position.y) where
+  pub line_ink-box : ink ≡ true → r ≡ Line.ink_box t.metrics.font t.character_style (length (chars shown)) corner.x corner.y → r ≡ line_box ink t.metrics.font (line_text t l) (placed_line t l)
   unfolding line_box line_ink place_line line_corner
   line_ink-box h p = rw h (rw (d, e) at p)
 
-  pub line_measured_box : ink ≡ false → r ≡ Line.measured_box m s (length (chars shown)) corner.x corner.y → r ≡ line_box ink m (text_of line x y s t) (place_line m (text_of line x y s t) line y)
+  pub line_measured_box : ink ≡ false → r ≡ Line.measured_box t.metrics.font t.character_style (length (chars shown)) corner.x corner.y → r ≡ line_box ink t.metrics.font (line_text t l) (placed_line t l)
   unfolding line_box measured_box place_line line_corner
   line_measured_box h p = rw h (rw (d, e) at p)
 
@@ -77,10 +82,18 @@ module _ (ink : Bool) (m : MonoFont) (text : List ℕ) (x y : ℕ) (s : MonoText
     pub joined : joins area (boxes from at) ≡ lines_box ink m whole
     pub start : LineStart text y from at
     pub ends : EndsFit area
+    pub limits : TextLimits (length text) x y ts.line_height
 
   pub boxes_start : TextLimits (length text) x y ts.line_height → BoxesJoined 0 y (rectangle x y 0 0)
   unfolding lines_box placed_lines
-  boxes_start limits = record { joined = refl; start = omega arith; ends = omega arith }
+  boxes_start limits = record { joined = refl; start = omega arith; ends = omega arith; limits = limits }
+
+  module _ (from at : ℕ) (area : Rectangle) (j : BoxesJoined from at area) where
+    pub line_near : (line : List ℕ) → line ≡ line_from text from → LineLimits (length line) x at
+    line_near line e = line_limits text line x y from at ts.line_height j.limits j.start e
+
+    pub line_fits : (height : ℕ) → FontLimits m → height ≡ line_height m ts.line_height → Fits w32 (at + height)
+    line_fits height font h = at_fits text x y from from at height m ts.line_height font j.limits j.start h
 
   module _ (from at : ℕ) (area : Rectangle) (line : List ℕ) (shown next : Rectangle) (j : BoxesJoined from at area) (e : line ≡ line_from text from)
       (p : shown ≡ line_box ink m (text_of line x at s ts) (place_line m (text_of line x at s ts) line at)) (q : next ≡ join area shown) where
@@ -92,18 +105,19 @@ module _ (ink : Bool) (m : MonoFont) (text : List ℕ) (x y : ℕ) (s : MonoText
     unfolding place_lines joins
     boxes_last size z h = one-joined ∙ sym (rw (lines_last text from (from + length line) j.start.reach (end_of_line text line from e) (omega arith))) ∙ j.joined
 
-    pub boxes_end : FontLimits m → TextLimits (length text) x y ts.line_height → EndsFit next
-    boxes_end font limits = rw q (ends_fit_join area shown j.ends (box_ends ink m s ts x at line shown font (line_limits text line x y from at ts.line_height limits j.start e) p))
+    pub boxes_end : FontLimits m → EndsFit next
+    boxes_end font = rw q (ends_fit_join area shown j.ends (box_ends ink m s ts x at line shown font (line_near from at area j line e) p))
 
-    pub boxes_step : (size height : ℕ) → FontLimits m → TextLimits (length text) x y ts.line_height → height ≡ line_height m ts.line_height → size ≡ length text → from + length line < size
+    pub boxes_step : (size height : ℕ) → FontLimits m → height ≡ line_height m ts.line_height → size ≡ length text → from + length line < size
         → BoxesJoined (from + length line + 1) (at + height) next
     unfolding place_lines joins
-    boxes_step size height font limits h z less =
+    boxes_step size height font h z less =
         let d = end_of_line text line from e in
         record {
           joined = rw (h, one-joined) (sym (rw (lines_more text from (from + length line) j.start.reach d (omega arith))) ∙ j.joined);
-          start = start-next text x y from (from + length line) at height m ts.line_height font limits j.start h d (omega arith);
-          ends = boxes_end font limits;
+          start = start-next text x y from (from + length line) at height m ts.line_height font j.limits j.start h d (omega arith);
+          ends = boxes_end font;
+          limits = j.limits;
         }
 
 -- ---- the two boxes of a text

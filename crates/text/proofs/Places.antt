@@ -1,5 +1,5 @@
 -- Where the lines of a text stand, and that no sum on the way is too large. Assumes nothing.
-use Prim.Native.Nat.{ℕ, ◌+◌, ◌-◌, ◌*◌, ◌/◌, ◌≤◌, ◌<◌}
+use Prim.Native.Nat.{ℕ, ◌+◌, ◌*◌, ◌≤◌, ◌<◌}
 use native.Mathlib.Nat.{mul-le-mul}
 use native.Mathlib.Omega.{arith}
 use mathlib.Core.Path.{◌≡◌, ap}
@@ -24,16 +24,6 @@ use Rattle.text.specs.Lines.{line_corner}
 use Rattle.text.specs.Limits.{height_value, TextLimits, LineLimits}
 
 -- ---- the start of a line, and how much lower the next one stands
-
--- `width` is what was measured of a line of measured width w
-module _ (a : Alignment) (x w width r : ℕ) (e : width ≡ w) where
-  pub start_center : (before : ℕ) → a ≡ Center → before ≡ width - 1 → r ≡ x - before / 2 → r ≡ aligned_start a x w
-  unfolding aligned_start
-  start_center before c b d = rw (c, ← e, ← b) d
-
-  pub start_right : a ≡ Right → r ≡ x + 1 - width → r ≡ aligned_start a x w
-  unfolding aligned_start
-  start_right c d = rw (c, ← e) d
 
 pub start_near : (a : Alignment) (x w : ℕ) → aligned_start a x w ≤ x + 1
 unfolding aligned_start

@@ -15,8 +15,7 @@ use Rattle.characters.proofs.Feeds.{line_part, length-line_from, length_to_feed,
 use Rattle.line.specs.declared.MonoFont.{MonoFont}
 use Rattle.line.specs.Line.{Font, unlisted}
 use Rattle.line.proofs.Unlisted.{counted_sum, counted_none, counted_few, unlisted_few}
-use Rattle.text.specs.declared.TextLayout.{TextLayout}
-use Rattle.text.specs.Text.{Text, PlacedLine, laid_out, place_line, place_lines, placed_lines, line_replaced, lines_replaced, replaced}
+use Rattle.text.specs.Text.{Text, PlacedLine, text_of, place_line, place_lines, placed_lines, line_replaced, lines_replaced, replaced}
 
 -- ---- the count by the lines' bytes alone
 
@@ -47,16 +46,16 @@ count_lines counts mapping l ls = counted_sum counts (line_replaced mapping l) (
 
 -- the line from one position of a text to another
 
-module _ (counts : Bool) (mapping : List ℕ) (m : MonoFont) (t : TextLayout) (text : List ℕ) (from end y n : ℕ) (e : end ≡ from + line_length (drop from text))
-    (k : n ≡ cond counts (line_replaced mapping (place_line m (laid_out t (take (end - from) (drop from text))) (take (end - from) (drop from text)) y)) 0) where
-  pub part_count : n ≡ cond counts (line_replaced mapping (place_line m (laid_out t text) (line_from text from) y)) 0
+module _ (counts : Bool) (mapping : List ℕ) (m : MonoFont) (t : Text) (from end y n : ℕ) (e : end ≡ from + line_length (drop from t.text))
+    (k : n ≡ cond counts (line_replaced mapping (place_line m (text_of (take (end - from) (drop from t.text)) t.position.x y t.character_style t.text_style) (take (end - from) (drop from t.text)) y)) 0) where
+  pub part_count : n ≡ cond counts (line_replaced mapping (place_line m t (line_from t.text from) y)) 0
   unfolding line_replaced place_line
-  part_count = rw (line_part text from end e) at k
+  part_count = rw (line_part t.text from end e) at k
 
   pub part_few : n ≤ end - from
   unfolding line_replaced place_line
   part_few =
-      let line = line_from text from in
+      let line = line_from t.text from in
       omega (
         arith,
         part_count,
@@ -64,9 +63,9 @@ module _ (counts : Bool) (mapping : List ℕ) (m : MonoFont) (t : TextLayout) (t
         unlisted_few mapping (chars (without_return line)),
         length-chars (without_return line),
         length-without_return line,
-        length-line_from text from,
+        length-line_from t.text from,
         e,
       )
 
-  pub count_fits : (replaced : ℕ) → replaced ≤ from → from ≤ length text → length text ≤ 4_096 → Fits w32 (replaced + n)
-  count_fits replaced few reach short = omega (arith, part_few, length_to_feed (drop from text), length-drop from text)
+  pub count_fits : (replaced : ℕ) → replaced ≤ from → from ≤ length t.text → length t.text ≤ 4_096 → Fits w32 (replaced + n)
+  count_fits replaced few reach short = omega (arith, part_few, length_to_feed (drop from t.text), length-drop from t.text)

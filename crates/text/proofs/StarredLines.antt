@@ -3,9 +3,8 @@ use Prim.Native.Nat.{ℕ, ◌+◌}
 use mathlib.Core.Path.{◌≡◌, refl}
 use mathlib.Core.List.{List, [], ◌∷◌, ◌++◌, map}
 use lib.ListN.{replicate}
+use Rattle.std.specs.Prelude.{Option, None, Some}
 use Rattle.geometry.specs.declared.Point.{Point}
-use Rattle.geometry.specs.declared.OptionalGrey.{OptionalGrey}
-use Rattle.geometry.specs.declared.OptionalGrey.TheVariants.{Unset, Set}
 use Rattle.geometry.specs.Rectangle
 use Rattle.geometry.specs.Layer.{origin}
 use Rattle.geometry.specs.Layer
@@ -15,7 +14,7 @@ use Rattle.mapping.specs.Mapping
 use Rattle.atlas.specs.Atlas
 use Rattle.line.specs.declared.MonoFont.{MonoFont}
 use Rattle.line.specs.declared.DecorationColor.{DecorationColor}
-use Rattle.line.specs.declared.DecorationColor.TheVariants.{None, Custom}
+use Rattle.line.specs.declared.DecorationColor.TheVariants.{None as NoColor, Custom}
 use Rattle.line.specs.declared.MonoTextStyle.{MonoTextStyle}
 use Rattle.line.specs.declared.Baseline.TheVariants.{Top}
 use Rattle.line.specs.Line.{Font, glyph_index}
@@ -44,8 +43,8 @@ mono ch replacement = record {
 abbrev font : ℕ → Font
 font replacement = record { mono = mono 2 replacement; atlas = 0x90 ∷ 0x60 ∷ []; mapping = 0x41 ∷ 0x42 ∷ [] }
 
-abbrev style : OptionalGrey → OptionalGrey → DecorationColor → MonoTextStyle
-style text background underline = record { text_color = text; background_color = background; underline_color = underline; strikethrough_color = None }
+abbrev style : Option ℕ → Option ℕ → DecorationColor → MonoTextStyle
+style text background underline = record { text_color = text; background_color = background; underline_color = underline; strikethrough_color = NoColor }
 
 -- a text in row 0
 abbrev sample : MonoTextStyle → Alignment → ℕ → List ℕ → Text.Text
@@ -78,10 +77,10 @@ abbrev AB : List ℕ
 AB = 0x41 ∷ 0x42 ∷ []
 
 abbrev both : MonoTextStyle
-both = style (Set 9) (Set 5) None
+both = style (Some 9) (Some 5) NoColor
 
 abbrev underlined : MonoTextStyle
-underlined = style Unset Unset (Custom 7)
+underlined = style None None (Custom 7)
 
 -- where a pixel is untouched, it has the frame's grey g, whatever that is
 pub record StarredLines : Type 0 where
@@ -89,7 +88,7 @@ pub record StarredLines : Type 0 where
   pub text_and_background : (g : ℕ) → drawn 1 (left both AB) 5 10 g ≡ 9 ∷ 5 ∷ 5 ∷ 5 ∷ 9 ∷ 5 ∷ 9 ∷ 5 ∷ 9 ∷ 5 ∷ []
   pub text_and_background_next : next 1 (left both AB) ≡ position 5 0
   -- "Background 5 only (· untouched): · 5 5 5 · over 5 · 5 · 5"
-  pub background_only : (g : ℕ) → drawn 1 (left (style Unset (Set 5) None) AB) 5 10 g ≡ g ∷ 5 ∷ 5 ∷ 5 ∷ g ∷ 5 ∷ g ∷ 5 ∷ g ∷ 5 ∷ []
+  pub background_only : (g : ℕ) → drawn 1 (left (style None (Some 5) NoColor) AB) 5 10 g ≡ g ∷ 5 ∷ 5 ∷ 5 ∷ g ∷ 5 ∷ g ∷ 5 ∷ g ∷ 5 ∷ []
   -- "Neither, own underline 7: row 3, columns 0 to 5; next (6, 0)", on 8 columns and 5 rows
   pub underline_only : (g : ℕ) → drawn 1 (left underlined AB) 8 40 g ≡ replicate 24 g ++ replicate 6 7 ++ replicate 10 g
   pub underline_only_next : next 1 (left underlined AB) ≡ position 6 0

@@ -17,15 +17,6 @@ pub record TextLimits (n x y : ℕ) (height : LineHeight) : Type 0 where
   pub near_y : y ≤ 4_194_304
   pub height_small : height_value height ≤ 1_000
 
--- a line height
-pub record HeightLimit (height : LineHeight) : Type 0 where
-  pub height_small : height_value height ≤ 1_000
-
--- a line of n bytes that is set beside x
-pub record StartLimits (n x : ℕ) : Type 0 where
-  pub line_short : n ≤ 4_096
-  pub near_x : x ≤ 4_194_304
-
 -- a line of n bytes of a text at (x, y)
 pub record LineLimits (n x y : ℕ) : Type 0 where
   pub line_short : n ≤ 4_096

@@ -10,8 +10,6 @@ use Rattle.line.specs.Line.{top_edge, measured_width}
 use Rattle.text.specs.declared.Alignment.{Alignment}
 use Rattle.text.specs.declared.Alignment.TheVariants.{Left, Center, Right}
 use Rattle.text.specs.declared.TextStyle.{TextStyle}
-use Rattle.text.specs.declared.boxes.Source.{Source}
-use Rattle.text.specs.declared.boxes.Source.TheVariants.{Stored, New}
 use Rattle.text.specs.Text.{Text, PlacedLine, aligned_start, placed_lines, nowhere, measured_box, line_ink}
 
 -- how many line feeds a text has
@@ -24,11 +22,6 @@ unfoldable pub start_reach : Alignment → ℕ → ℕ
 start_reach Left widest = 0
 start_reach Center widest = widest + 1
 start_reach Right widest = widest + 1
-
--- the stored text or the new one
-abbrev pub either : {A : Type 0} → Source → A → A → A
-either Stored stored new = stored
-either New stored new = new
 
 -- a part lies in memory `from` bytes after the start of a slice: a slice of the same bytes elsewhere has no such part
 pub record LiesAt (slice : ℕ × ℕ) (from : ℕ) (part : ℕ × ℕ) : Type 0 where

@@ -16,7 +16,7 @@ use Rattle.text.specs.declared.Alignment.TheVariants.{Left, Center, Right}
 use Rattle.text.specs.declared.LineHeight.{LineHeight}
 use Rattle.text.specs.declared.LineHeight.TheVariants.{Pixels, Percent}
 use Rattle.text.specs.declared.TextStyle.{TextStyle}
-use Rattle.text.specs.declared.TextLayout.{TextLayout}
+use Rattle.text.specs.declared.texts.TextLayout.{TextLayout}
 
 -- embedded-graphics' `Text`; its font stands beside it
 pub record Text : Type 0 where

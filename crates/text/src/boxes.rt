@@ -1,175 +1,29 @@
-// The boxes of a text: of its lines, found between two line feeds of the stored text or of the new one, and joined; and whether the ink box can
+// The boxes of a text: of its lines, found between two line feeds of the stored text or of a new one, and joined; and whether the ink box can
 // meet a clip, told without its characters.
-ghost use Rattle.std.specs.Prelude.{◌≡◌, true, cond, ℕ, ◌+◌, ◌*◌, ◌≤◌, eqb, length};
+ghost use Rattle.std.specs.Prelude.{◌≡◌, true, cond, unwrap_or, ℕ, ◌+◌, ◌*◌, ◌≤◌, eqb, length};
 ghost use Rattle.geometry.specs.Rectangle.{is_empty, intersection};
 ghost use Rattle.geometry.specs.Canvas.{EndsFit};
 ghost use Rattle.characters.specs.Lines.{line_from};
 ghost use Rattle.line.specs.declared.MonoTextStyle.{MonoTextStyle};
 ghost use Rattle.line.specs.Line.{character_width, spacing};
-ghost use Rattle.line.specs.Limits.{FontLimits};
-ghost use Rattle.text.specs.Text.{text_of, line_height, place_line, bounding_box, ink_box};
-ghost use Rattle.text.specs.Lines.{feed_count, start_reach, either, LiesAt, line_box, lines_box};
-ghost use Rattle.text.specs.Limits.{TextLimits, HeightLimit, StartLimits, LineLimits};
+ghost use Rattle.text.specs.Text.{text_of, laid_out, line_height, bounding_box, ink_box};
+ghost use Rattle.text.specs.Lines.{feed_count, start_reach, LiesAt, line_box, lines_box};
+ghost use Rattle.text.specs.Lent.{lent_text, line_text, placed_line};
 
-use super::{Alignment, LineHeight, TextStyle, line_corner, line_height};
+use super::Alignment;
+use super::texts::{TextLayout, TextLine};
 use characters::lines::{line_end, without_return};
-use geometry::Rectangle;
-use geometry::numbers::minus;
-use line::{MonoFont, MonoTextStyle};
+use geometry::{Point, Rectangle};
 
-// The text that a line is a part of, while the layouts before and after an edit are found.
-#[derive(Clone, Copy)]
-pub enum Source {
-    Stored,
-    New,
-}
-
-// The text that `source` names, of the two that are lent: that slice itself, not one of the same bytes.
-fn text_of<'a>(stored: &'a [u8], new: &'a [u8], source: Source) -> &'a [u8]
-    ensures { result ≡ either source stored.entry new.entry }
+// The line that starts at `from`: a part of the new text, or of the stored one if none is new, by its bytes and by where they lie.
+pub fn line_of<'a>(stored: &'a [u8], new: Option<&'a [u8]>, from: usize) -> &'a [u8]
+    requires { from ≤ length (unwrap_or new stored).now }
+    ensures result_value { result.now ≡ line_from (unwrap_or new.entry stored.entry).now from }
+    ensures lies_at { LiesAt (unwrap_or new.entry stored.entry).ref_ptr from result.ref_ptr }
 {
-    match source {
-        Source::Stored => stored,
-        Source::New => new,
-    }
-}
-
-// The line that starts at `from`: a part of the lent slice that `source` names, by its bytes and by where they lie.
-pub fn line_of<'a>(stored: &'a [u8], new: &'a [u8], source: Source, from: usize) -> &'a [u8]
-    requires { from ≤ length (either source stored.now new.now) }
-    ensures result_value { result.now ≡ line_from (either source stored.now new.now) from }
-    ensures lies_at { LiesAt (either source stored.entry.ref_ptr new.entry.ref_ptr) from result.ref_ptr }
-{
-    let text = text_of(stored, new, source);
+    let text = new.unwrap_or(stored);
     let end = line_end(text, from);
     &text[from..end]
-}
-
-// The ink box of one line of a text at y, or its measured box.
-fn line_box(
-    line: &[u8],
-    ink: bool,
-    font: MonoFont,
-    style: MonoTextStyle,
-    text_style: TextStyle,
-    x: u32,
-    y: u32,
-) -> Rectangle
-    requires font_limits { FontLimits font }
-    requires line_limits { LineLimits (length line.now) x y }
-    ensures { result ≡ line_box ink font (text_of line.now x y style text_style) (place_line font (text_of line.now x y style text_style) line.now y) }
-{
-    let shown = without_return(line);
-    let corner = line_corner(line, font, text_style, x, y);
-    if ink {
-        return line::ink_box(shown, font, style, corner.x, corner.y);
-    }
-    line::measure_string(shown, font, style, corner.x, corner.y)
-}
-
-// The smallest rectangle that holds the boxes, of ink or measured, of the lines of the text that `source` names.
-fn lines_box<'a>(
-    stored: &'a [u8],
-    new: &'a [u8],
-    source: Source,
-    ink: bool,
-    font: MonoFont,
-    style: MonoTextStyle,
-    text_style: TextStyle,
-    x: u32,
-    y: u32,
-) -> Rectangle
-    requires font_limits { FontLimits font }
-    requires text_limits { TextLimits (length (either source stored.now new.now)) x y text_style.line_height }
-    ensures value { result ≡ lines_box ink font (text_of (either source stored.now new.now) x y style text_style) }
-    ensures ends_fit { EndsFit result }
-{
-    let kind = text_style.line_height;
-    let height = line_height(font, kind);
-    let size = text_of(stored, new, source).len();
-    let mut area = Rectangle {
-        left: x,
-        top: y,
-        width: 0,
-        height: 0,
-    };
-    let mut from: usize = 0;
-    let mut at = y;
-    loop {
-        let line = line_of(stored, new, source, from);
-        let end = from + line.len();
-        let shown = line_box(line, ink, font, style, text_style, x, at);
-        area = area.join(shown);
-        if size <= end {
-            return area;
-        }
-        from = end + 1;
-        at = at + height;
-    }
-}
-
-// The measured box of a text.
-pub fn bounding_box(
-    text: &[u8],
-    font: MonoFont,
-    style: MonoTextStyle,
-    text_style: TextStyle,
-    x: u32,
-    y: u32,
-) -> Rectangle
-    requires font_limits { FontLimits font }
-    requires text_limits { TextLimits (length text.now) x y text_style.line_height }
-    ensures { result ≡ bounding_box font (text_of text.now x y style text_style) }
-{
-    let source = Source::Stored;
-    lines_box(text, b"", source, false, font, style, text_style, x, y)
-}
-
-// The ink box of a text.
-pub fn ink_box(
-    text: &[u8],
-    font: MonoFont,
-    style: MonoTextStyle,
-    text_style: TextStyle,
-    x: u32,
-    y: u32,
-) -> Rectangle
-    requires font_limits { FontLimits font }
-    requires text_limits { TextLimits (length text.now) x y text_style.line_height }
-    ensures value { result ≡ ink_box font (text_of text.now x y style text_style) }
-    ensures ends_fit { EndsFit result }
-{
-    let source = Source::Stored;
-    lines_box(text, b"", source, true, font, style, text_style, x, y)
-}
-
-// The ink box of the text that `source` names.
-pub fn ink_box_of<'a>(
-    stored: &'a [u8],
-    new: &'a [u8],
-    source: Source,
-    font: MonoFont,
-    style: MonoTextStyle,
-    text_style: TextStyle,
-    x: u32,
-    y: u32,
-) -> Rectangle
-    requires font_limits { FontLimits font }
-    requires text_limits { TextLimits (length (either source stored.now new.now)) x y text_style.line_height }
-    ensures value { result ≡ ink_box font (text_of (either source stored.now new.now) x y style text_style) }
-    ensures ends_fit { EndsFit result }
-{
-    lines_box(stored, new, source, true, font, style, text_style, x, y)
-}
-
-// 1 for a line feed, 0 for another byte.
-fn one_if_feed(byte: u8) -> u16
-    ensures { result ≡ cond (eqb byte 0x0A) 1 0 }
-{
-    if byte == 0x0A {
-        return 1;
-    }
-    0
 }
 
 // How many line feeds a text has.
@@ -178,93 +32,145 @@ fn feed_count(text: &[u8]) -> u32
     ensures { result ≡ feed_count text.now }
 {
     let mut feeds: u16 = 0;
-    let mut i: usize = 0;
-    while i < text.len() {
-        feeds = feeds + one_if_feed(text[i]);
-        i += 1;
+    for &byte in text {
+        feeds += u16::from(byte == 0x0A);
     }
-    feeds as u32
+    u32::from(feeds)
 }
 
-// How far from x a line that is at most `widest` wide can start.
-fn start_reach(alignment: Alignment, widest: u32) -> u32
-    requires { widest ≤ 1_048_576 }
-    ensures { result ≡ start_reach alignment widest }
-{
-    match alignment {
-        Alignment::Left => 0,
-        Alignment::Center => widest + 1,
-        Alignment::Right => widest + 1,
+impl Alignment {
+    // How far from x a line that is at most `widest` wide can start.
+    #[tactic(auto, unfolding(crate::specs::Lines::start_reach))]
+    fn start_reach(self, widest: u32) -> u32
+        requires { widest ≤ 1_048_576 }
+        ensures { result ≡ start_reach self widest }
+    {
+        match self {
+            Alignment::Left => 0,
+            Alignment::Center | Alignment::Right => widest + 1,
+        }
     }
 }
 
-// How wide a line of a text is at most: a character for each byte of the text.
-fn most_width(text: &[u8], font: MonoFont) -> u32
-    requires font_limits { FontLimits font }
-    requires text_len_bound { length text.now ≤ 4_096 }
-    ensures value { result ≡ length text.now * (character_width font + spacing font) }
-    ensures upper_bound { result ≤ 1_048_576 }
-{
-    let pitch = font.atlas.cell_size.width + font.character_spacing;
-    text.len() as u32 * pitch
-}
+impl<'a> TextLayout<'a> {
+    // The ink box of one line of the text, or its measured box.
+    fn line_box(&self, line: &TextLine, ink: bool) -> Rectangle
+        ensures { result ≡ line_box ink self.now.metrics.font (line_text self.now line.now) (placed_line self.now line.now) }
+    {
+        let shown = without_return(line.text);
+        let corner = self.line_corner(line);
+        if ink {
+            return self.metrics.ink_box(shown, self.character_style, corner);
+        }
+        self.metrics
+            .measure_string(shown, self.character_style, corner)
+    }
 
-// How much lower the last line of a text stands than the first.
-fn lines_span(text: &[u8], font: MonoFont, height: LineHeight) -> u32
-    requires font_limits { FontLimits font }
-    requires height_limit { HeightLimit height }
-    requires text_len_bound { length text.now ≤ 4_096 }
-    ensures value { result ≡ feed_count text.now * line_height font height }
-    ensures upper_bound { result ≤ 4_194_304 }
-{
-    let lower = line_height(font, height);
-    let feeds = feed_count(text);
-    feeds * lower
-}
+    // The smallest rectangle that holds the boxes, of ink or measured, of the lines of the text, or of a new one in its place.
+    fn lines_box(&self, new: Option<&'a [u8]>, ink: bool) -> Rectangle
+        requires { length (unwrap_or new self.now.text).now ≤ 4_096 }
+        ensures value { result ≡ lines_box ink self.now.metrics.font (laid_out self.now (unwrap_or new.entry self.now.text).now) }
+        ensures ends_fit { EndsFit result }
+    {
+        let start = self.position;
+        let height = self.line_height();
+        let size = new.unwrap_or(self.text).len();
+        let mut area = Rectangle {
+            left: start.x,
+            top: start.y,
+            width: 0,
+            height: 0,
+        };
+        let mut from: usize = 0;
+        let mut y = start.y;
+        // No `for`: each line is a slice that begins in mid-text, past the feed where the one before ended.
+        loop {
+            let text = line_of(self.text, new, from);
+            let end = from + text.len();
+            let position = Point { x: start.x, y };
+            let line = TextLine { text, position };
+            let shown = self.line_box(&line, ink);
+            area = area.join(shown);
+            if size <= end {
+                return area;
+            }
+            from = end + 1;
+            y = y + height;
+        }
+    }
 
-// Whether a clip lies beside what a text's widest line could reach, in whatever style and at whatever y.
-fn is_beside(text: &[u8], font: MonoFont, text_style: TextStyle, x: u32, clip: Rectangle) -> bool
-    requires font_limits { FontLimits font }
-    requires start_limits { StartLimits (length text.now) x }
-    ensures { result ≡ true → (style : MonoTextStyle) (y : ℕ) → is_empty (intersection (ink_box font (text_of text.now x y style text_style)) clip) ≡ true }
-{
-    let widest = most_width(text, font);
-    let alignment = text_style.alignment;
-    let reach = start_reach(alignment, widest);
-    if clip.width <= minus(minus(x, reach), clip.left) {
-        return true;
+    // The measured box of the text.
+    pub fn bounding_box(&self) -> Rectangle
+        ensures { result ≡ bounding_box self.now.metrics.font (lent_text self.now) }
+    {
+        self.lines_box(None, false)
     }
-    x + reach + widest <= clip.left
-}
 
-// Whether a text's ink box is known not to meet a clip: the clip lies beside its lines, no row of a line counts, or the clip ends above the first
-// row of ink or starts below the last.
-pub fn is_apart(
-    text: &[u8],
-    font: MonoFont,
-    style: MonoTextStyle,
-    text_style: TextStyle,
-    x: u32,
-    y: u32,
-    clip: Rectangle,
-) -> bool
-    requires font_limits { FontLimits font }
-    requires text_limits { TextLimits (length text.now) x y text_style.line_height }
-    ensures { result ≡ true → is_empty (intersection (ink_box font (text_of text.now x y style text_style)) clip) ≡ true }
-{
-    if is_beside(text, font, text_style, x, clip) {
-        return true;
+    // The ink box of the text.
+    pub fn ink_box(&self) -> Rectangle
+        ensures value { result ≡ ink_box self.now.metrics.font (lent_text self.now) }
+        ensures ends_fit { EndsFit result }
+    {
+        self.lines_box(None, true)
     }
-    let rows = line::ink_rows(font, style);
-    if rows.height == 0 {
-        return true;
+
+    // The ink box of the text, or of a new one in its place.
+    pub fn ink_box_of(&self, new: Option<&'a [u8]>) -> Rectangle
+        requires { length (unwrap_or new self.now.text).now ≤ 4_096 }
+        ensures value { result ≡ ink_box self.now.metrics.font (laid_out self.now (unwrap_or new.entry self.now.text).now) }
+        ensures ends_fit { EndsFit result }
+    {
+        self.lines_box(new, true)
     }
-    let baseline = text_style.baseline;
-    let edge = minus(y, line::baseline_offset(font, baseline));
-    let top = edge + rows.top;
-    if clip.height <= minus(top, clip.top) {
-        return true;
+
+    // How wide a line of the text is at most: a character for each byte of the text.
+    fn most_width(&self) -> u32
+        ensures value { result ≡ length self.now.text.now * (character_width self.now.metrics.font + spacing self.now.metrics.font) }
+        ensures upper_bound { result ≤ 1_048_576 }
+    {
+        let font = self.metrics.font;
+        let pitch = font.atlas.cell_size.width + font.character_spacing;
+        self.text.len() as u32 * pitch
     }
-    let height = text_style.line_height;
-    top + lines_span(text, font, height) + rows.height <= clip.top
+
+    // How much lower the last line of the text stands than the first.
+    fn lines_span(&self) -> u32
+        ensures value { result ≡ feed_count self.now.text.now * line_height self.now.metrics.font self.now.text_style.line_height }
+        ensures upper_bound { result ≤ 4_194_304 }
+    {
+        feed_count(self.text) * self.line_height()
+    }
+
+    // Whether a clip lies beside what the text's widest line could reach, in whatever style and at whatever y.
+    fn is_beside(&self, clip: Rectangle) -> bool
+        ensures { result ≡ true → (style : MonoTextStyle) (y : ℕ) → is_empty (intersection (ink_box self.now.metrics.font (text_of self.now.text.now self.now.position.x y style self.now.text_style)) clip) ≡ true }
+    {
+        let x = self.position.x;
+        let widest = self.most_width();
+        let reach = self.text_style.alignment.start_reach(widest);
+        if clip.width <= x.saturating_sub(reach).saturating_sub(clip.left) {
+            return true;
+        }
+        x + reach + widest <= clip.left
+    }
+
+    // Whether the text's ink box is known not to meet a clip: the clip lies beside its lines, no row of a line counts, or the clip ends above
+    // the first row of ink or starts below the last.
+    pub fn is_apart(&self, clip: Rectangle) -> bool
+        ensures { result ≡ true → is_empty (intersection (ink_box self.now.metrics.font (lent_text self.now)) clip) ≡ true }
+    {
+        if self.is_beside(clip) {
+            return true;
+        }
+        let rows = self.metrics.ink_rows(self.character_style);
+        if rows.height == 0 {
+            return true;
+        }
+        let edge = self.text_style.top_edge(self.metrics, self.position.y);
+        let top = edge + rows.top;
+        if clip.height <= top.saturating_sub(clip.top) {
+            return true;
+        }
+        top + self.lines_span() + rows.height <= clip.top
+    }
 }

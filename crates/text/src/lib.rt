@@ -2,25 +2,24 @@
 #![tactic(auto)]
 
 ghost use Rattle.std.specs.Prelude.{◌≡◌, cond, length};
-ghost use Rattle.geometry.specs.Canvas.{Canvas, paint_on};
+ghost use Rattle.geometry.specs.Painted.{Painted};
 ghost use Rattle.characters.specs.Utf8.{chars};
-ghost use Rattle.mapping.specs.Entries.{WithinLimit};
-ghost use Rattle.line.specs.Line.{font_of, top_edge, measured_width};
-ghost use Rattle.line.specs.Limits.{FontLimits};
-ghost use Rattle.text.specs.Text.{laid_out, aligned_start, line_height, place_line, line_layer, layer, line_next, next, line_replaced, replaced};
+ghost use Rattle.line.specs.Line.{top_edge, measured_width};
+ghost use Rattle.text.specs.Text.{aligned_start, line_height, line_layer, layer, line_next, next, line_replaced, replaced};
 ghost use Rattle.text.specs.Lines.{line_corner, is_below, is_left_out};
-ghost use Rattle.text.specs.Limits.{TextLimits, HeightLimit, StartLimits, LineLimits};
+ghost use Rattle.text.specs.Lent.{lent_font, lent_text, line_text, placed_line};
 
-pub use boxes::{Source, bounding_box, ink_box, ink_box_of, is_apart};
 use characters::lines::{line_end, without_return};
-use geometry::numbers::minus;
-use geometry::{DrawTarget, Point, Rectangle};
-use line::{Baseline, DrawnLine, MonoFont, MonoTextStyle};
+use geometry::{Frame, Point, Rectangle};
+use line::{Baseline, DrawnLine, Font, Line, Metrics};
+use texts::TextLine;
+pub use texts::{Text, TextLayout};
 
 mod boxes;
+mod texts;
 
 // Where the lines of a text stand beside its x.
-#[derive(Clone, Copy)]
+#[derive(Clone, Copy, PartialEq, Eq, Debug)]
 pub enum Alignment {
     Left,
     Center,
@@ -28,197 +27,148 @@ pub enum Alignment {
 }
 
 // How much lower each line stands than the one before: in pixels, or in percent of the characters' height.
-#[derive(Clone, Copy)]
+#[derive(Clone, Copy, PartialEq, Eq, Debug)]
 pub enum LineHeight {
     Pixels(u32),
     Percent(u32),
 }
 
 // How the lines of a text are set.
-#[derive(Clone, Copy)]
+#[derive(Clone, Copy, PartialEq, Eq, Debug)]
 pub struct TextStyle {
     pub alignment: Alignment,
     pub baseline: Baseline,
     pub line_height: LineHeight,
 }
 
-// Where a text stands and how it is set: embedded-graphics' `Text` without its bytes, which are lent beside it.
-#[derive(Clone, Copy)]
-pub struct TextLayout {
-    pub position: Point,
-    pub character_style: MonoTextStyle,
-    pub text_style: TextStyle,
-}
-
 // What drawing a text replies: the next position of its last line, and how many characters of its lines the font's mapping does not
 // list. Where no reply is asked for, it is the text's own position, and 0.
-#[derive(Clone, Copy)]
+#[derive(Clone, Copy, PartialEq, Eq, Debug)]
 pub struct DrawnText {
     pub next: Point,
     pub replaced: u32,
 }
 
-// Where a line starts beside x; only an alignment that needs the line's width measures it.
-fn aligned_start(line: &[u8], font: MonoFont, alignment: Alignment, x: u32) -> u32
-    requires font_limits { FontLimits font }
-    requires start_limits { StartLimits (length line.now) x }
-    ensures { result ≡ aligned_start alignment x (measured_width font (length (chars line.now))) }
-{
-    match alignment {
-        Alignment::Left => x,
-        Alignment::Center => {
-            let width = line::measured_width(line, font);
-            minus(x, minus(width, 1) / 2)
-        }
-        Alignment::Right => {
-            let width = line::measured_width(line, font);
-            minus(x + 1, width)
-        }
+impl TextStyle {
+    // The top edge of a line at y.
+    fn top_edge(self, metrics: Metrics, y: u32) -> u32
+        ensures { result ≡ top_edge metrics.font self.baseline y }
+    {
+        y.saturating_sub(metrics.baseline_offset(self.baseline))
+    }
+
+    // Whether a text at y starts below a clip, so that nothing of it is shown.
+    #[tactic(auto, unfolding(crate::specs::Lines::is_below))]
+    pub fn starts_below(self, metrics: Metrics, y: u32, clip: Rectangle) -> bool
+        ensures { result ≡ is_below clip (top_edge metrics.font self.baseline y) }
+    {
+        let top = self.top_edge(metrics, y);
+        clip.height <= top.saturating_sub(clip.top)
     }
 }
 
-// How much lower each line stands than the one before.
-fn line_height(font: MonoFont, height: LineHeight) -> u32
-    requires font_limits { FontLimits font }
-    requires height_limit { HeightLimit height }
-    ensures { result ≡ line_height font height }
-{
-    match height {
-        LineHeight::Pixels(pixels) => pixels,
-        LineHeight::Percent(percent) => font.atlas.cell_size.height * percent / 100,
-    }
-}
-
-// The corner of a line at y: its start, measured with its return, and its top edge.
-fn line_corner(line: &[u8], font: MonoFont, text_style: TextStyle, x: u32, y: u32) -> Point
-    requires font_limits { FontLimits font }
-    requires line_limits { LineLimits (length line.now) x y }
-    ensures { result ≡ line_corner font text_style line.now x y }
-{
-    let alignment = text_style.alignment;
-    let left = aligned_start(line, font, alignment, x);
-    let baseline = text_style.baseline;
-    let top = minus(y, line::baseline_offset(font, baseline));
-    Point { x: left, y: top }
-}
-
-// Whether a text at y starts below a clip, so that nothing of it is shown.
-pub fn starts_below(clip: Rectangle, font: MonoFont, text_style: TextStyle, y: u32) -> bool
-    requires { FontLimits font }
-    ensures { result ≡ is_below clip (top_edge font text_style.baseline y) }
-{
-    let baseline = text_style.baseline;
-    let top = minus(y, line::baseline_offset(font, baseline));
-    clip.height <= minus(top, clip.top)
-}
-
-// Whether a line at y, and so each after it, is left out of a drawing: nothing of it is shown, and no reply is asked for.
-fn is_left_out(
-    clip: Rectangle,
-    font: MonoFont,
-    text_style: TextStyle,
-    y: u32,
-    replies: bool,
-) -> bool
-    requires { FontLimits font }
-    ensures { result ≡ is_left_out clip font text_style y replies }
-{
-    if replies {
-        return false;
-    }
-    starts_below(clip, font, text_style, y)
-}
-
-// A next position that is asked for, else the text's own.
-fn next_if(replies: bool, next: Point, position: Point) -> Point
-    ensures { result ≡ cond replies next position }
-{
-    if replies {
-        return next;
-    }
-    position
-}
-
-// Draws one line of a text at y, with its return if it has one; gives the next x, and the count.
-fn draw_line(
-    frame: &mut [u8],
-    target: DrawTarget,
-    atlas: &[u8],
-    mapping: &[u8],
-    line: &[u8],
-    font: MonoFont,
-    layout: TextLayout,
-    y: u32,
-    counts: bool,
-) -> DrawnLine
-    requires canvas { Canvas target (length frame.old) }
-    requires font_limits { FontLimits font }
-    requires within_limit { WithinLimit mapping.now }
-    requires line_limits { LineLimits (length line.now) layout.position.x y }
-    ensures frame_after { frame.new ≡ paint_on target (line_layer (font_of font atlas.now mapping.now) (laid_out layout line.now) (place_line font (laid_out layout line.now) line.now y)) frame.old }
-    ensures next_value { result.next ≡ (line_next font (laid_out layout line.now) (place_line font (laid_out layout line.now) line.now y)).x }
-    ensures replaced_value { result.replaced ≡ cond counts (line_replaced mapping.now (place_line font (laid_out layout line.now) line.now y)) 0 }
-{
-    let shown = without_return(line);
-    let text_style = layout.text_style;
-    let corner = line_corner(line, font, text_style, layout.position.x, y);
-    let style = layout.character_style;
-    line::draw_string(
-        frame, target, atlas, mapping, shown, font, style, corner, counts,
-    )
-}
-
-// Draws a text; replies, if `replies`, the next position of its last line and how many characters are not listed. Else the first line below the
-// clip ends it: the lines after that one stand no higher.
-pub fn draw(
-    frame: &mut [u8],
-    target: DrawTarget,
-    atlas: &[u8],
-    mapping: &[u8],
-    text: &[u8],
-    font: MonoFont,
-    layout: TextLayout,
-    replies: bool,
-) -> DrawnText
-    requires canvas { Canvas target (length frame.old) }
-    requires font_limits { FontLimits font }
-    requires within_limit { WithinLimit mapping.now }
-    requires text_limits { TextLimits (length text.now) layout.position.x layout.position.y layout.text_style.line_height }
-    ensures frame_after { frame.new ≡ paint_on target (layer (font_of font atlas.now mapping.now) (laid_out layout text.now)) frame.old }
-    ensures next_value { result.next ≡ cond replies (next font (laid_out layout text.now)) layout.position }
-    ensures replaced_value { result.replaced ≡ cond replies (replaced (font_of font atlas.now mapping.now) (laid_out layout text.now)) 0 }
-{
-    let text_style = layout.text_style;
-    let kind = text_style.line_height;
-    let height = line_height(font, kind);
-    let clip = target.clip_area;
-    let mut from: usize = 0;
-    let mut y = layout.position.y;
-    let mut replaced: u32 = 0;
-    loop {
-        if is_left_out(clip, font, text_style, y, replies) {
-            let next = layout.position;
-            return DrawnText { next, replaced };
+impl<'a> TextLayout<'a> {
+    // How much lower each line stands than the one before.
+    #[tactic(auto, using(crate::proofs::Places::percent_fits), unfolding(crate::specs::Text::line_height))]
+    fn line_height(&self) -> u32
+        ensures { result ≡ line_height self.now.metrics.font self.now.text_style.line_height }
+    {
+        match self.text_style.line_height {
+            LineHeight::Pixels(pixels) => pixels,
+            LineHeight::Percent(percent) => {
+                self.metrics.font.atlas.cell_size.height * percent / 100
+            }
         }
-        let end = line_end(text, from);
-        let drawn = draw_line(
-            frame,
-            target,
-            atlas,
-            mapping,
-            &text[from..end],
-            font,
-            layout,
-            y,
-            replies,
-        );
-        replaced = replaced + drawn.replaced;
-        if text.len() <= end {
-            let last = Point { x: drawn.next, y };
-            let next = next_if(replies, last, layout.position);
-            return DrawnText { next, replaced };
+    }
+
+    // Where a line starts; only an alignment that needs the line's width measures it.
+    #[tactic(auto, unfolding(crate::specs::Text::aligned_start))]
+    fn aligned_start(&self, line: &TextLine) -> u32
+        ensures { result ≡ aligned_start self.now.text_style.alignment line.now.position.x (measured_width self.now.metrics.font (length (chars line.now.text.now))) }
+    {
+        let x = line.position.x;
+        match self.text_style.alignment {
+            Alignment::Left => x,
+            Alignment::Center => {
+                let width = self.metrics.measured_width(line.text);
+                x.saturating_sub(width.saturating_sub(1) / 2)
+            }
+            Alignment::Right => (x + 1).saturating_sub(self.metrics.measured_width(line.text)),
         }
-        from = end + 1;
-        y = y + height;
+    }
+
+    // The corner of a line: its start, measured with its return, and its top edge.
+    #[tactic(auto, unfolding(crate::specs::Lines::line_corner))]
+    fn line_corner(&self, line: &TextLine) -> Point
+        ensures { result ≡ line_corner self.now.metrics.font self.now.text_style line.now.text.now line.now.position.x line.now.position.y }
+    {
+        Point {
+            x: self.aligned_start(line),
+            y: self.text_style.top_edge(self.metrics, line.position.y),
+        }
+    }
+
+    // Whether a line at y, and so each after it, is left out of a drawing: nothing of it is shown, and no reply is asked for.
+    #[tactic(auto, unfolding(crate::specs::Lines::is_left_out))]
+    fn is_left_out(&self, clip: Rectangle, y: u32, replies: bool) -> bool
+        ensures { result ≡ is_left_out clip self.now.metrics.font self.now.text_style y replies }
+    {
+        !replies && self.text_style.starts_below(self.metrics, y, clip)
+    }
+}
+
+impl<'a> Text<'a> {
+    // Draws one line of the text, with its return if it has one; gives the next x, and the count.
+    fn draw_line(&self, frame: &mut Frame, line: &TextLine, counts: bool) -> DrawnLine
+        ensures painted { Painted frame.old (line_layer (lent_font self.now) (line_text self.now.layout line.now) (placed_line self.now.layout line.now)) frame.new }
+        ensures next_value { result.next ≡ (line_next self.now.layout.metrics.font (line_text self.now.layout line.now) (placed_line self.now.layout line.now)).x }
+        ensures replaced_value { result.replaced ≡ cond counts (line_replaced self.now.mapping.now (placed_line self.now.layout line.now)) 0 }
+    {
+        let layout = &self.layout;
+        let shown = Line {
+            text: without_return(line.text),
+            font: Font::new(layout.metrics, self.atlas, self.mapping),
+            style: layout.character_style,
+            counts,
+        };
+        shown.draw_string(frame, layout.line_corner(line))
+    }
+
+    // Draws the text; replies, if `replies`, the next position of its last line and how many characters are not listed. Else the first line
+    // below the clip ends it: the lines after that one stand no higher.
+    pub fn draw(&self, frame: &mut Frame, replies: bool) -> DrawnText
+        ensures painted { Painted frame.old (layer (lent_font self.now) (lent_text self.now.layout)) frame.new }
+        ensures next_value { result.next ≡ cond replies (next self.now.layout.metrics.font (lent_text self.now.layout)) self.now.layout.position }
+        ensures replaced_value { result.replaced ≡ cond replies (replaced (lent_font self.now) (lent_text self.now.layout)) 0 }
+    {
+        let text = self.layout.text;
+        let start = self.layout.position;
+        let height = self.layout.line_height();
+        let clip = frame.target.clip_area;
+        let mut from: usize = 0;
+        let mut y = start.y;
+        let mut replaced: u32 = 0;
+        // No `for`: each line is a slice that begins in mid-text, past the feed where the one before ended.
+        loop {
+            if self.layout.is_left_out(clip, y, replies) {
+                let next = start;
+                return DrawnText { next, replaced };
+            }
+            let end = line_end(text, from);
+            let position = Point { x: start.x, y };
+            let line = TextLine {
+                text: &text[from..end],
+                position,
+            };
+            let drawn = self.draw_line(frame, &line, replies);
+            replaced = replaced + drawn.replaced;
+            if text.len() <= end {
+                let last = Point { x: drawn.next, y };
+                let next = if replies { last } else { start };
+                return DrawnText { next, replaced };
+            }
+            from = end + 1;
+            y = y + height;
+        }
     }
 }

@@ -5,8 +5,8 @@ use Rattle.text.proofs.boxes.feed_count.Goals as goal
 pub overflow_add-feeds : goal.overflow_add-feeds
 overflow_add-feeds c = search feeds_fit
 
-pub loop-i-preserved : goal.loop-i-preserved
-loop-i-preserved c = search feeds_more
+pub loop-byte-preserved : goal.loop-byte-preserved
+loop-byte-preserved c = search feeds_more
 
 pub returns : goal.returns
-returns c = search feeds_all
+returns c = rw c.from.ensures (search feeds_all)
