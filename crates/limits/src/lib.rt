@@ -2,10 +2,13 @@
 #![tactic(auto)]
 
 ghost use Rattle.std.specs.Prelude.{◌≡◌};
+ghost use Rattle.refusals.specs.Numbers.{refusal_of};
 ghost use Rattle.limits.specs.Limits.{header_refusal, font_limits, good_modes, item_limits};
 
+use refusals::Refusal;
+
 // The header's fields that refusals 1 to 4 test, and the file's length.
-#[derive(Clone, Copy)]
+#[derive(Clone, Copy, Debug, PartialEq, Eq)]
 pub struct HeaderFields {
     pub file_length: usize,
     pub whole_length: usize,
@@ -18,7 +21,7 @@ pub struct HeaderFields {
 }
 
 // The fields of a font that refusal 6 tests.
-#[derive(Clone, Copy)]
+#[derive(Clone, Copy, Debug, PartialEq, Eq)]
 pub struct FontFields {
     pub cw: u8,
     pub ch: u8,
@@ -28,7 +31,7 @@ pub struct FontFields {
 }
 
 // The fields of an item that refusal 9 tests.
-#[derive(Clone, Copy)]
+#[derive(Clone, Copy, Debug, PartialEq, Eq)]
 pub struct ItemFields {
     pub slot_size: usize,
     pub text_length: usize,
@@ -45,8 +48,9 @@ pub struct ItemFields {
 }
 
 // Refusals 1 to 4.
-pub fn header_refusal(header: HeaderFields) -> u32
-    ensures { result ≡ header_refusal header }
+#[tactic(auto, using(characters::proofs::Tests::tests), unfolding(crate::specs::Limits::header_refusal))]
+pub fn header_refusal(header: HeaderFields) -> Result<(), Refusal>
+    ensures { refusal_of result ≡ header_refusal header }
 {
     let HeaderFields {
         file_length,
@@ -58,48 +62,28 @@ pub fn header_refusal(header: HeaderFields) -> u32
         fonts,
         items,
     } = header;
-    if file_length < 24 {
-        return 1;
-    }
-    if 65536 < file_length {
-        return 1;
-    }
-    if whole_length != file_length {
-        return 1;
-    }
-    if zero != 0 {
-        return 1;
+    if !(24..=65536).contains(&file_length) || whole_length != file_length || zero != 0 {
+        return Err(Refusal::Length);
     }
     if edition != 1 {
-        return 2;
+        return Err(Refusal::Edition);
     }
-    if width < 1 {
-        return 3;
+    if !(1..=512).contains(&width) {
+        return Err(Refusal::FrameSize);
     }
-    if 512 < width {
-        return 3;
+    if !(1..=512).contains(&height) || 65536 < width * height {
+        return Err(Refusal::FrameSize);
     }
-    if height < 1 {
-        return 3;
+    if 4 < fonts || 64 < items {
+        return Err(Refusal::Count);
     }
-    if 512 < height {
-        return 3;
-    }
-    if 65536 < width * height {
-        return 3;
-    }
-    if 4 < fonts {
-        return 4;
-    }
-    if 64 < items {
-        return 4;
-    }
-    0
+    Ok(())
 }
 
 // Refusal 6.
-pub fn font_limits(font: FontFields) -> u32
-    ensures { result ≡ font_limits font }
+#[tactic(auto, using(characters::proofs::Tests::tests), unfolding(crate::specs::Limits::font_limits))]
+pub fn font_limits(font: FontFields) -> Result<(), Refusal>
+    ensures { refusal_of result ≡ font_limits font }
 {
     let FontFields {
         cw,
@@ -108,43 +92,24 @@ pub fn font_limits(font: FontFields) -> u32
         atlas_width,
         zero,
     } = font;
-    if 64 < cw {
-        return 6;
+    if 64 < cw || 64 < ch || 64 < spacing || 1024 < atlas_width || zero != 0 {
+        return Err(Refusal::Font);
     }
-    if 64 < ch {
-        return 6;
-    }
-    if 64 < spacing {
-        return 6;
-    }
-    if 1024 < atlas_width {
-        return 6;
-    }
-    if zero != 0 {
-        return 6;
-    }
-    0
+    Ok(())
 }
 
 // Whether the four modes are known.
+#[tactic(auto, using(characters::proofs::Tests::tests), unfolding(crate::specs::Limits::good_modes))]
 pub fn good_modes(text: u8, background: u8, underline: u8, strikethrough: u8) -> bool
     ensures { result ≡ good_modes text background underline strikethrough }
 {
-    if 1 < text {
-        return false;
-    }
-    if 1 < background {
-        return false;
-    }
-    if 2 < underline {
-        return false;
-    }
-    strikethrough <= 2
+    text <= 1 && background <= 1 && underline <= 2 && strikethrough <= 2
 }
 
 // Refusal 9 of an item in a sheet of `fonts` fonts, but for the slot's tail.
-pub fn item_limits(item: ItemFields, fonts: u32) -> u32
-    ensures { result ≡ item_limits item fonts }
+#[tactic(auto, using(characters::proofs::Tests::tests), unfolding(crate::specs::Limits::item_limits))]
+pub fn item_limits(item: ItemFields, fonts: u32) -> Result<(), Refusal>
+    ensures { refusal_of result ≡ item_limits item fonts }
 {
     let ItemFields {
         slot_size,
@@ -160,14 +125,8 @@ pub fn item_limits(item: ItemFields, fonts: u32) -> u32
         height_value,
         zero,
     } = item;
-    if 256 < slot_size {
-        return 9;
-    }
-    if slot_size < text_length {
-        return 9;
-    }
-    if fonts <= font {
-        return 9;
+    if 256 < slot_size || slot_size < text_length || fonts <= font {
+        return Err(Refusal::Item);
     }
     if !good_modes(
         text_mode,
@@ -175,22 +134,10 @@ pub fn item_limits(item: ItemFields, fonts: u32) -> u32
         underline_mode,
         strikethrough_mode,
     ) {
-        return 9;
+        return Err(Refusal::Item);
     }
-    if 2 < alignment {
-        return 9;
+    if 2 < alignment || 3 < baseline || 1 < height_kind || 1000 < height_value || zero != 0 {
+        return Err(Refusal::Item);
     }
-    if 3 < baseline {
-        return 9;
-    }
-    if 1 < height_kind {
-        return 9;
-    }
-    if 1000 < height_value {
-        return 9;
-    }
-    if zero != 0 {
-        return 9;
-    }
-    0
+    Ok(())
 }
