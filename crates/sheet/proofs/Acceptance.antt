@@ -8,6 +8,9 @@ use lib.Dec.{leb, eqb}
 use lib.ListN.{length, get_or}
 use native.Mathlib.Omega.{arith}
 use borrow.Author.Tests.{leb-true, ltb-true, eqb-true, eqb-false, le-leb, lt-ltb, eq-eqb}
+use mathlib.Mathlib.Data.Bool.Basic.{eq-false_of_not-eq-true}
+use Rattle.std.specs.Bool.{MatchBool}
+use Rattle.std.specs.List.{AllWithin, HoldsAt}
 use Rattle.characters.specs.Refusal.{need, or_else, all}
 use Rattle.characters.specs.Utf8.{well_formed}
 use Rattle.mapping.specs.Mapping.{list_of}
@@ -113,6 +116,11 @@ all-zeros : (l : List ℕ) → ((k : ℕ) → k < length l → get_or l k 0 ≡ 
 unfolding zeros
 all-zeros [] h = refl
 all-zeros (a ∷ l) h = rw (eq-eqb a 0 (h 0 (omega arith))) (all-zeros l (λ k m. h (suc k) (omega arith)))
+
+-- what `all` tells of the bytes
+pub zeros_told : (l : List ℕ) (r : Bool) → MatchBool r (AllWithin (λ x. x ≡ 0) l 0 (length l)) ((k : ℕ) × (k < length l) × HoldsAt (λ x. x ≡ 0 → ⊥) l k) → r ≡ zeros l
+zeros_told l true h = sym (all-zeros l (λ k m. h k 0 (omega arith) m))
+zeros_told l false h = sym (eq-false_of_not-eq-true (λ t. h.2 0 (zero_at l t h.0)))
 
 module _ (b : List ℕ) (o : ℕ) where
   item-tests : item_numbers b o ≡ 0 → all (item_tests (item_fields b o) (Fields.font_count b)) ≡ true

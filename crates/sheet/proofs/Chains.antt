@@ -7,19 +7,18 @@ use lib.Dec.{eqb}
 use native.Mathlib.Numerals.{add-one}
 use native.Mathlib.Omega.{arith}
 use borrow.Author.Tests.{eqb-true, eqb-false, eq-eqb}
-use Rattle.sheet.specs.declared.Reach.{Reach}
-use Rattle.sheet.specs.declared.Reach.TheVariants.{To, Misplaced}
+use Rattle.std.specs.Prelude.{Option, None, Some}
 use Rattle.sheet.specs.Pieces.{Piece, pieces_of}
 use Rattle.sheet.specs.Conforming.{Chain}
 use Rattle.sheet.specs.Check.{given, reach, ends_at}
 
 -- ---- the test reaches q just where the pieces stand in a chain that ends at q
 
-given_to : (t : Bool) (r : Reach) (q : ℕ) → given t r ≡ To q → (t ≡ true) × (r ≡ To q)
+given_to : (t : Bool) (r : Option ℕ) (q : ℕ) → given t r ≡ Some q → (t ≡ true) × (r ≡ Some q)
 given_to true r q h = (refl, h)
 given_to false r q h = let z : ◌≡◌ {A = ℕ} 0 1 = cc in absurd (omega arith)
 
-reach_chain : (l : List Piece) (p q : ℕ) → reach l p ≡ To q → Chain l p q
+reach_chain : (l : List Piece) (p q : ℕ) → reach l p ≡ Some q → Chain l p q
 unfolding reach Chain
 reach_chain [] p q h = cc
 reach_chain (c ∷ l) p q h =
@@ -27,14 +26,14 @@ reach_chain (c ∷ l) p q h =
     let e = eqb-true c.offset p g.0 in
     (e, rw e (reach_chain l (p + c.size) q g.1))
 
-chain_reach : (l : List Piece) (p q : ℕ) → Chain l p q → reach l p ≡ To q
+chain_reach : (l : List Piece) (p q : ℕ) → Chain l p q → reach l p ≡ Some q
 unfolding reach Chain
-chain_reach [] p q h = ap To h
+chain_reach [] p q h = ap Some h
 chain_reach (c ∷ l) p q h = rw (eq-eqb _ _ h.0) (chain_reach l (p + c.size) q (rw h.0 at h).1)
 
-ends_at_to : (r : Reach) (n : ℕ) → ends_at r n ≡ true → r ≡ To n
-ends_at_to Misplaced n h = let z : ◌≡◌ {A = ℕ} 0 1 = cc in absurd (omega arith)
-ends_at_to (To p) n h = ap To (eqb-true p n h)
+ends_at_to : (r : Option ℕ) (n : ℕ) → ends_at r n ≡ true → r ≡ Some n
+ends_at_to None n h = let z : ◌≡◌ {A = ℕ} 0 1 = cc in absurd (omega arith)
+ends_at_to (Some p) n h = ap Some (eqb-true p n h)
 
 pub ends_chain : (l : List Piece) (p q : ℕ) → ends_at (reach l p) q ≡ true → Chain l p q
 ends_chain l p q h = reach_chain l p q (ends_at_to (reach l p) q h)
@@ -109,14 +108,14 @@ module _ (f : ℕ → List Piece) where
   pub pieces-start : (m n p : ℕ) → n ≡ m → reach (pieces_of f (n - 0) 0) p ≡ reach (pieces_of f m 0) p
   pieces-start m n p e = ap (λ (i : ℕ). reach (pieces_of f i 0) p) (omega arith)
 
-  pub pieces_done : (n k p : ℕ) (e : Reach) → n ≤ k → reach (pieces_of f (n - k) k) p ≡ e → To p ≡ e
+  pub pieces_done : (n k p : ℕ) (e : Option ℕ) → n ≤ k → reach (pieces_of f (n - k) k) p ≡ e → Some p ≡ e
   unfolding pieces_of reach
   pieces_done n k p e h i = let z : n - k ≡ 0 = omega arith in rw z at i
 
 -- what the first list reaches, then the second from there on
-abbrev pub then_reach : Reach → List Piece → Reach
-then_reach Misplaced m = Misplaced
-then_reach (To q) m = reach m q
+abbrev pub then_reach : Option ℕ → List Piece → Option ℕ
+then_reach None m = None
+then_reach (Some q) m = reach m q
 
 pub reach-append : (l m : List Piece) (p : ℕ) → reach (l ++ m) p ≡ then_reach (reach l p) m
 unfolding reach
@@ -127,15 +126,15 @@ reach-append (c ∷ l) m p = go (eqb c.offset p) (reach-append l m (p + c.size))
     go true ih = ih
     go false ih = refl
 
-module _ (f : ℕ → List Piece) (n k p : ℕ) (e : Reach) (h : k < n) (i : reach (pieces_of f (n - k) k) p ≡ e) where
+module _ (f : ℕ → List Piece) (n k p : ℕ) (e : Option ℕ) (h : k < n) (i : reach (pieces_of f (n - k) k) p ≡ e) where
   unrolled : then_reach (reach (f k) p) (pieces_of f (n - suc k) (suc k)) ≡ e
   unfolding pieces_of
   unrolled = let z : n - k ≡ suc (n - suc k) = omega arith in sym (reach-append (f k) (pieces_of f (n - suc k) (suc k)) p) ∙ (rw z at i)
 
-  pub pieces_more : (q : ℕ) → reach (f k) p ≡ To q → reach (pieces_of f (n - (k + 1)) (k + 1)) q ≡ e
+  pub pieces_more : (q : ℕ) → reach (f k) p ≡ Some q → reach (pieces_of f (n - (k + 1)) (k + 1)) q ≡ e
   pieces_more q r = rw add-one (rw r at unrolled)
 
-  pub pieces_misplaced : reach (f k) p ≡ Misplaced → Misplaced ≡ e
+  pub pieces_misplaced : reach (f k) p ≡ None → None ≡ e
   pieces_misplaced r = rw r at unrolled
 
 -- ---- pieces of records that read the same

@@ -1,18 +1,19 @@
 -- The loops over records and bytes: what a turn, a way out and the end make of the definition's recursion. Assumes nothing.
 use Prim.Native.Nat.{ℕ, suc, ◌+◌, ◌-◌, ◌≤◌, ◌<◌}
-use mathlib.Core.Path.{◌≡◌, ap}
-use mathlib.Core.Bool.{true, false}
+use mathlib.Core.Path.{◌≡◌, ◌∙◌, ap}
 use mathlib.Core.List.{List}
-use lib.ListN.{length, get_or, drop}
-use lib.Seq.{drop-cons, drop-length}
+use lib.ListN.{length}
 use native.Mathlib.Numerals.{add-one}
 use native.Mathlib.Omega.{arith}
 use borrow.Author.Tests.{eq-eqb, ne_eqb}
-use Rattle.sheet.specs.declared.Reach.TheVariants.{To, Misplaced}
+use Rattle.std.specs.Prelude.{None, Some}
+use Rattle.refusals.specs.declared.Refusal.{Refusal}
+use Rattle.refusals.specs.Numbers.{number}
+use Rattle.characters.specs.Refusal.{or_else}
 use Rattle.sheet.specs.Fields.{le16_at, le32_at, font_at, item_at}
 use Rattle.sheet.specs.Pieces.{font_pieces, slot_pieces}
-use Rattle.sheet.specs.Check.{reach, check_font, zeros, check_item, first_refusal, font_refusal, item_refusal}
-use Rattle.characters.proofs.Refusals.{or_else_first}
+use Rattle.sheet.specs.Check.{reach, check_font, check_item, first_refusal, font_refusal, item_refusal}
+use Rattle.characters.proofs.Refusals.{or_else_refused}
 
 -- what is left of n after k is one more than after k + 1
 left_suc : (n k : ℕ) → k < n → n - k ≡ suc (n - suc k)
@@ -21,53 +22,42 @@ left_suc n k h = omega arith
 -- ---- the pieces of a font, and of an item
 
 module _ (b : List ℕ) (k p o atlas : ℕ) (eo : o ≡ font_at k) (ea : atlas ≡ le32_at b o) where
-  pub atlas_misplaced : (atlas ≡ p → ⊥) → reach (font_pieces b k) p ≡ Misplaced
+  pub atlas_misplaced : (atlas ≡ p → ⊥) → reach (font_pieces b k) p ≡ None
   unfolding font_pieces reach
   atlas_misplaced t = rw (← eo, ← ea, ne_eqb _ _ t)
 
   module _ (t : atlas ≡ p) (size mapping : ℕ) (es : size ≡ le32_at b (o + 4)) (em : mapping ≡ le32_at b (o + 8)) where
-    pub mapping_misplaced : (mapping ≡ p + size → ⊥) → reach (font_pieces b k) p ≡ Misplaced
+    pub mapping_misplaced : (mapping ≡ p + size → ⊥) → reach (font_pieces b k) p ≡ None
     unfolding font_pieces reach
     mapping_misplaced u = rw (← eo, ← ea, ← es, ← em, eq-eqb _ _ t, ne_eqb _ _ u)
 
-    pub font_to : (length : ℕ) → length ≡ le16_at b (o + 12) → mapping ≡ p + size → reach (font_pieces b k) p ≡ To (p + size + length)
+    pub font_to : (length : ℕ) → length ≡ le16_at b (o + 12) → mapping ≡ p + size → reach (font_pieces b k) p ≡ Some (p + size + length)
     unfolding font_pieces reach
     font_to length el u = rw (← eo, ← ea, ← es, ← em, ← el, eq-eqb _ _ t, eq-eqb _ _ u)
 
 module _ (b : List ℕ) (k p o slot : ℕ) (eo : o ≡ item_at b k) (es : slot ≡ le32_at b (o + 4)) where
-  pub slot_misplaced : (slot ≡ p → ⊥) → reach (slot_pieces b k) p ≡ Misplaced
+  pub slot_misplaced : (slot ≡ p → ⊥) → reach (slot_pieces b k) p ≡ None
   unfolding slot_pieces reach
   slot_misplaced t = rw (← eo, ← es, ne_eqb _ _ t)
 
-  pub slot_to : (size : ℕ) → size ≡ le16_at b (o + 8) → slot ≡ p → reach (slot_pieces b k) p ≡ To (p + size)
+  pub slot_to : (size : ℕ) → size ≡ le16_at b (o + 8) → slot ≡ p → reach (slot_pieces b k) p ≡ Some (p + size)
   unfolding slot_pieces reach
   slot_to size ez t = rw (← eo, ← es, ← ez, eq-eqb _ _ t)
 
 -- ---- zeros
 
-module _ (s : List ℕ) (i : ℕ) (h : i < length s) (e : zeros (drop i s) ≡ zeros s) where
-  pub zeros_more : get_or s i 0 ≡ 0 → zeros (drop (i + 1) s) ≡ zeros s
-  unfolding zeros
-  zeros_more z = rw add-one (rw (drop-cons s i 0 h, eq-eqb _ _ z) at e)
-
-  pub zeros_not : (get_or s i 0 ≡ 0 → ⊥) → false ≡ zeros s
-  unfolding zeros
-  zeros_not z = rw (drop-cons s i 0 h, ne_eqb _ _ z) at e
-
-pub zeros_done : (s : List ℕ) (i : ℕ) → length s ≤ i → i ≤ length s → zeros (drop i s) ≡ zeros s → true ≡ zeros s
-unfolding zeros
-zeros_done s i h l e = let q : i ≡ length s = omega arith in rw (q, drop-length s) at e
-
 -- ---- the first refusal of some records
 
-module _ (f : ℕ → ℕ) (n k e r : ℕ) (i : first_refusal f (n - k) k ≡ e) (h : k < n) (er : r ≡ f k) where
-  pub refusal_more : r ≡ 0 → first_refusal f (n - (k + 1)) (k + 1) ≡ e
+module _ (f : ℕ → ℕ) (n k e : ℕ) (i : first_refusal f (n - k) k ≡ e) (h : k < n) where
+  unrolled : or_else (f k) (first_refusal f (n - suc k) (suc k)) ≡ e
   unfolding first_refusal
-  refusal_more z = rw add-one (rw (left_suc n k h, ← er, z) at i)
+  unrolled = rw (left_suc n k h) at i
 
-  pub refusal_found : (r ≡ 0 → ⊥) → r ≡ e
-  unfolding first_refusal
-  refusal_found z = rw (left_suc n k h, ← er, or_else_first r _ z) at i
+  pub refusal_more : 0 ≡ f k → first_refusal f (n - (k + 1)) (k + 1) ≡ e
+  refusal_more z = rw add-one (rw (← z) at unrolled)
+
+  pub refusal_found : (d : Refusal) → number d ≡ f k → number d ≡ e
+  refusal_found d q = or_else_refused (f k) (first_refusal f (n - suc k) (suc k)) d q ∙ unrolled
 
 pub refusal_done : (f : ℕ → ℕ) (n k e : ℕ) → n ≤ k → first_refusal f (n - k) k ≡ e → 0 ≡ e
 unfolding first_refusal

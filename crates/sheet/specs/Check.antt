@@ -1,6 +1,6 @@
 -- The check of a sheet: the number of the first refusal (docs/SHEET.md, Replies and refusals), or 0. Assumes nothing.
 -- To be believed: it says what a sheet means.
-use Rattle.std.specs.Prelude.{ℕ, zero, suc, ◌+◌, Bool, true, false, ◌&&◌, List, [], ◌∷◌, eqb, length}
+use Rattle.std.specs.Prelude.{ℕ, zero, suc, ◌+◌, Bool, true, false, ◌&&◌, Option, None, Some, List, [], ◌∷◌, eqb, length}
 use Rattle.characters.specs.Refusal.{need, or_else, all}
 use Rattle.characters.specs.Utf8.{well_formed}
 use Rattle.mapping.specs.Mapping
@@ -8,8 +8,6 @@ use Rattle.limits.specs.declared.HeaderFields.{HeaderFields}
 use Rattle.limits.specs.declared.FontFields.{FontFields}
 use Rattle.limits.specs.declared.ItemFields.{ItemFields}
 use Rattle.limits.specs.Limits.{header_refusal, font_limits, item_limits}
-use Rattle.sheet.specs.declared.Reach.{Reach}
-use Rattle.sheet.specs.declared.Reach.TheVariants.{To, Misplaced}
 use Rattle.sheet.specs.Fields
 use Rattle.sheet.specs.Pieces.{Piece, pieces}
 
@@ -33,18 +31,18 @@ check_header b = header_refusal (header_fields b)
 -- ---- refusal 5: "After the items, without gaps: each font's atlas and mapping, then each slot; the last ends the file"
 
 -- a test, then where the rest ends
-abbrev pub given : Bool → Reach → Reach
+abbrev pub given : Bool → Option ℕ → Option ℕ
 given true rest = rest
-given false rest = Misplaced
+given false rest = None
 
 -- where pieces end, if the first starts at p and each other where the one before ends
-unfoldable pub reach : List Piece → ℕ → Reach
-reach [] p = To p
+unfoldable pub reach : List Piece → ℕ → Option ℕ
+reach [] p = Some p
 reach (c ∷ cs) p = given (eqb c.offset p) (reach cs (p + c.size))
 
-abbrev pub ends_at : Reach → ℕ → Bool
-ends_at Misplaced n = false
-ends_at (To p) n = eqb p n
+abbrev pub ends_at : Option ℕ → ℕ → Bool
+ends_at None n = false
+ends_at (Some p) n = eqb p n
 
 unfoldable pub layout_tests : List ℕ → List Bool
 layout_tests b =

@@ -5,3 +5,4 @@ pub mod Check
 pub mod Accepted
 pub mod Edits
 pub mod Requires
+pub mod OfItem

@@ -1,69 +1,40 @@
 // The file's fields: numbers stored as bytes, the header's numbers, and where records stand.
-ghost use Rattle.std.specs.Prelude.{◌≡◌, ◌+◌, ◌^◌, ◌≤◌, ◌<◌, length};
+ghost use Rattle.std.specs.Prelude.{◌≡◌, ◌+◌, ◌^◌, ◌≤◌, ◌<◌, ◌↔◌, length, IsSome, IfSome};
 ghost use Rattle.sheet.specs.Fields.{byte_at, le16_at, le32_at, part, frame_width, frame_height, paper, font_count, item_count, font_at, item_at};
-
-use numbers::wide;
 
 // The number that the byte at `at` stores.
 pub fn u8_at(bytes: &[u8], at: usize) -> u32
     requires { at < length bytes.now }
     ensures { (result ≡ byte_at bytes.now at) × (result < 2 ^ 8) }
 {
-    wide(bytes[at])
+    u32::from(bytes[at])
 }
 
 // The number that the two bytes from `at` on store.
+#[tactic(auto, unfolding(crate::specs::Fields::le16_at))]
 pub fn u16_at(bytes: &[u8], at: usize) -> usize
     requires { at + 2 ≤ length bytes.now }
     ensures { (result ≡ le16_at bytes.now at) × (result < 2 ^ 16) }
 {
-    (wide(bytes[at]) + 256 * wide(bytes[at + 1])) as usize
+    usize::from(u16::from_le_bytes([bytes[at], bytes[at + 1]]))
 }
 
 // The number that the four bytes from `at` on store.
+#[tactic(auto, unfolding(crate::specs::Fields::le32_at))]
 pub fn u32_at(bytes: &[u8], at: usize) -> usize
     requires { at + 4 ≤ length bytes.now }
     ensures { (result ≡ le32_at bytes.now at) × (result < 2 ^ 32) }
 {
-    (wide(bytes[at])
-        + 256 * wide(bytes[at + 1])
-        + 65536 * wide(bytes[at + 2])
-        + 16777216 * wide(bytes[at + 3])) as usize
+    u32::from_le_bytes([bytes[at], bytes[at + 1], bytes[at + 2], bytes[at + 3]]) as usize
 }
 
-pub fn frame_width(sheet: &[u8]) -> u32
-    requires { 24 ≤ length sheet.now }
-    ensures { result ≡ frame_width sheet.now }
+// `size` bytes of the file from `from` on.
+#[tactic(auto, using(crate::proofs::Bytes::slice_part))]
+pub fn part(bytes: &[u8], from: usize, size: usize) -> &[u8]
+    requires { from + size ≤ length bytes.now }
+    ensures { result.now ≡ part bytes.now from size }
 {
-    u16_at(sheet, 2) as u32
-}
-
-pub fn frame_height(sheet: &[u8]) -> u32
-    requires { 24 ≤ length sheet.now }
-    ensures { result ≡ frame_height sheet.now }
-{
-    u16_at(sheet, 4) as u32
-}
-
-pub fn paper(sheet: &[u8]) -> u8
-    requires { 24 ≤ length sheet.now }
-    ensures { result ≡ paper sheet.now }
-{
-    sheet[6]
-}
-
-pub fn font_count(sheet: &[u8]) -> u32
-    requires { 24 ≤ length sheet.now }
-    ensures { result ≡ font_count sheet.now }
-{
-    u8_at(sheet, 7)
-}
-
-pub fn item_count(sheet: &[u8]) -> u32
-    requires { 24 ≤ length sheet.now }
-    ensures { result ≡ item_count sheet.now }
-{
-    u16_at(sheet, 8) as u32
+    &bytes[from..from + size]
 }
 
 // Where the record of font `n` stands.
@@ -73,20 +44,65 @@ pub fn font_offset(n: u32) -> usize
     24 + 28 * n as usize
 }
 
-// Where the record of item `n` stands.
-pub fn item_offset(sheet: &[u8], n: u32) -> usize
-    requires { 24 ≤ length sheet.now }
-    ensures { result ≡ item_at sheet.now n }
-{
-    let first = font_offset(font_count(sheet));
-    first + 28 * n as usize
+// A file of which the header is there.
+#[derive(Clone, Copy, Debug)]
+pub struct Header<'a> {
+    pub bytes: &'a [u8],
+    pub ghost whole: { 24 ≤ length bytes.now },
 }
 
-// `size` bytes of the file from `from` on.
-pub fn part(sheet: &[u8], from: usize, size: usize) -> &[u8]
-    requires { from + size ≤ length sheet.now }
-    ensures { result.now ≡ part sheet.now from size }
-{
-    let to = from + size;
-    &sheet[from..to]
+impl<'a> Header<'a> {
+    // The header of a file, where it is there.
+    pub fn of(bytes: &'a [u8]) -> Option<Header<'a>>
+        ensures whole { IsSome result ↔ (24 ≤ length bytes.now) }
+        ensures same_bytes { IfSome result (λ header. header.bytes.now ≡ bytes.now) }
+    {
+        if bytes.len() < 24 {
+            return None;
+        }
+        Some(Header { bytes })
+    }
+
+    #[tactic(auto, unfolding(crate::specs::Fields::frame_width))]
+    pub fn frame_width(self) -> u32
+        ensures { result ≡ frame_width self.entry.bytes.now }
+    {
+        u16_at(self.bytes, 2) as u32
+    }
+
+    #[tactic(auto, unfolding(crate::specs::Fields::frame_height))]
+    pub fn frame_height(self) -> u32
+        ensures { result ≡ frame_height self.entry.bytes.now }
+    {
+        u16_at(self.bytes, 4) as u32
+    }
+
+    #[tactic(auto, unfolding(crate::specs::Fields::paper))]
+    pub fn paper(self) -> u8
+        ensures { result ≡ paper self.entry.bytes.now }
+    {
+        self.bytes[6]
+    }
+
+    #[tactic(auto, unfolding(crate::specs::Fields::font_count))]
+    pub fn font_count(self) -> u32
+        ensures { result ≡ font_count self.entry.bytes.now }
+    {
+        u8_at(self.bytes, 7)
+    }
+
+    #[tactic(auto, unfolding(crate::specs::Fields::item_count))]
+    pub fn item_count(self) -> u32
+        ensures { result ≡ item_count self.entry.bytes.now }
+    {
+        u16_at(self.bytes, 8) as u32
+    }
+
+    // Where the record of item `n` stands.
+    pub fn item_offset(self, n: u32) -> usize
+        ensures { result ≡ item_at self.entry.bytes.now n }
+    {
+        let first = font_offset(self.font_count());
+        first + 28 * n as usize
+    }
 }

@@ -6,87 +6,78 @@ ghost use Rattle.sheet.specs.Conforming.{Headed};
 ghost use Rattle.sheet.specs.Check.{reach, is_laid_out};
 ghost use Rattle.sheet.specs.Requires.{RecordsIn};
 
-use super::Reach;
-use super::fields::{font_count, font_offset, item_count, item_offset, u16_at, u32_at};
+use super::fields::{Header, font_offset, u16_at, u32_at};
+
+// A file of which the records are there, within the header's limits.
+#[derive(Clone, Copy, Debug)]
+struct Records<'a> {
+    header: Header<'a>,
+    ghost within: { RecordsIn header.bytes.now },
+}
 
 // Where the fonts' pieces end, if the first starts at `from` and each other where the one before ends.
-fn fonts_end(sheet: &[u8], from: usize) -> Reach
-    requires { RecordsIn sheet.now }
-    ensures { result ≡ reach (pieces_of (font_pieces sheet.now) (font_count sheet.now) 0) from }
+fn fonts_end(records: Records<'_>, from: usize) -> Option<usize>
+    ensures { result ≡ reach (pieces_of (font_pieces records.entry.header.bytes.now) (font_count records.entry.header.bytes.now) 0) from }
 {
-    let fonts = font_count(sheet);
-    let mut k: u32 = 0;
+    let header = records.header;
+    let bytes = header.bytes;
+    let fonts = header.font_count();
     let mut p = from;
-    while k < fonts {
+    for k in 0..fonts {
         let o = font_offset(k);
-        let atlas = u32_at(sheet, o);
-        let atlas_length = u32_at(sheet, o + 4);
-        let mapping = u32_at(sheet, o + 8);
-        let mapping_length = u16_at(sheet, o + 12);
-        if atlas != p {
-            return Reach::Misplaced;
-        }
-        if mapping != p + atlas_length {
-            return Reach::Misplaced;
+        let atlas = u32_at(bytes, o);
+        let atlas_length = u32_at(bytes, o + 4);
+        let mapping = u32_at(bytes, o + 8);
+        let mapping_length = u16_at(bytes, o + 12);
+        if atlas != p || mapping != p + atlas_length {
+            return None;
         }
         p = p + atlas_length + mapping_length;
-        k += 1;
     }
-    Reach::To(p)
+    Some(p)
 }
 
 // Where the slots end, if the first starts at `from` and each other where the one before ends.
-fn slots_end(sheet: &[u8], from: usize) -> Reach
-    requires { RecordsIn sheet.now }
-    ensures { result ≡ reach (pieces_of (slot_pieces sheet.now) (item_count sheet.now) 0) from }
+fn slots_end(records: Records<'_>, from: usize) -> Option<usize>
+    ensures { result ≡ reach (pieces_of (slot_pieces records.entry.header.bytes.now) (item_count records.entry.header.bytes.now) 0) from }
 {
-    let items = item_count(sheet);
-    let mut k: u32 = 0;
+    let header = records.header;
+    let bytes = header.bytes;
+    let items = header.item_count();
     let mut p = from;
-    while k < items {
-        let o = item_offset(sheet, k);
-        let slot = u32_at(sheet, o + 4);
-        let size = u16_at(sheet, o + 8);
+    for k in 0..items {
+        let o = header.item_offset(k);
+        let slot = u32_at(bytes, o + 4);
+        let size = u16_at(bytes, o + 8);
         if slot != p {
-            return Reach::Misplaced;
+            return None;
         }
-        p = p + size;
-        k += 1;
+        p += size;
     }
-    Reach::To(p)
+    Some(p)
 }
 
 // Where all pieces end: the fonts' from `from` on, then the slots.
-fn pieces_end(sheet: &[u8], from: usize) -> Reach
-    requires { RecordsIn sheet.now }
-    ensures { result ≡ reach (pieces sheet.now) from }
+fn pieces_end(records: Records<'_>, from: usize) -> Option<usize>
+    ensures { result ≡ reach (pieces records.entry.header.bytes.now) from }
 {
-    let Reach::To(slots) = fonts_end(sheet, from) else {
-        return Reach::Misplaced;
-    };
-    slots_end(sheet, slots)
+    let slots = fonts_end(records, from)?;
+    slots_end(records, slots)
 }
 
 // Whether records and pieces stand as laid out, and the last piece ends the file.
-pub fn is_laid_out(sheet: &[u8]) -> bool
-    requires { Headed sheet.now }
-    ensures { result ≡ is_laid_out sheet.now }
+pub fn is_laid_out(header: Header<'_>) -> bool
+    requires { Headed header.bytes.now }
+    ensures { result ≡ is_laid_out header.entry.bytes.now }
 {
-    let fonts_offset = u32_at(sheet, 12);
-    if fonts_offset != 24 {
+    let bytes = header.bytes;
+    let fonts_offset = u32_at(bytes, 12);
+    let items_offset = u32_at(bytes, 16);
+    let first = font_offset(header.font_count());
+    let from = header.item_offset(header.item_count());
+    if fonts_offset != 24 || items_offset != first || bytes.len() < from {
         return false;
     }
-    let items_offset = u32_at(sheet, 16);
-    let first = font_offset(font_count(sheet));
-    if items_offset != first {
-        return false;
-    }
-    let from = item_offset(sheet, item_count(sheet));
-    if sheet.len() < from {
-        return false;
-    }
-    let Reach::To(end) = pieces_end(sheet, from) else {
-        return false;
-    };
-    end == sheet.len()
+    let records = Records { header };
+    pieces_end(records, from) == Some(bytes.len())
 }

@@ -1,13 +1,10 @@
--- The loop keeps that the bytes left are zeros where all are. Assumes nothing.
-use borrow.Author.Rules.{rules}
-use Rattle.sheet.proofs.Loops.{zeros_more, zeros_not, zeros_done}
+-- Every byte is 0 just where the iterator says so. Assumes nothing.
+use Rattle.std.proofs.lemmas.Iterator.{cases_from_all, YieldsList-from_slice}
+use Rattle.std.proofs.Common.{rules, ◌≡◌}
+use borrow.Author.Tests.{tests}
+use Rattle.sheet.proofs.Acceptance.{zeros_told}
 use Rattle.sheet.proofs.all_zero.Goals as goal
 
-pub returns-then-bytes-i-ne0 : goal.returns-then-bytes-i-ne0
-returns-then-bytes-i-ne0 c = search zeros_not
-
-pub loop-i-preserved : goal.loop-i-preserved
-loop-i-preserved c = (search rules, search zeros_more)
-
 pub returns : goal.returns
-returns c = search zeros_done
+returns c =
+    zeros_told _ _ (cases_from_all _ _ _ (λ x. x ≡ 0) (λ x. x ≡ 0 → ⊥) c.all.ensures.ran (YieldsList-from_slice c.args.bytes.now cc) (λ x q k. search (rules, tests)) (λ x q k. search (rules, tests)))

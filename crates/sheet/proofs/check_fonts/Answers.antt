@@ -1,5 +1,6 @@
 -- The loop keeps the first refusal of the fonts that are left. Assumes nothing.
-use borrow.Author.Rules.{rules}
+use mathlib.Core.Path.{◌∙◌}
+use Rattle.characters.proofs.Refusals.{handed_on}
 use Rattle.sheet.proofs.Outcomes.{font_in_at}
 use Rattle.sheet.proofs.Loops.{refusal-start, refusal_more, refusal_found, refusal_done, font_refusal_is}
 use Rattle.sheet.specs.Check.{check_fonts}
@@ -7,16 +8,16 @@ use Rattle.sheet.proofs.check_fonts.Goals as goal
 
 pub loop-k-init : goal.loop-k-init
 unfolding check_fonts
-loop-k-init c = (search rules, search refusal-start)
+loop-k-init c = search refusal-start
 
-pub check_font-n-requires : goal.check_font-n-requires
-check_font-n-requires c = search font_in_at
+pub check_font-requires : goal.check_font-requires
+check_font-requires c = search font_in_at
 
-pub returns-then-n-ne0 : goal.returns-then-n-ne0
-returns-then-n-ne0 c = search (refusal_found, font_refusal_is)
+pub returns-in_err-check_font : goal.returns-in_err-check_font
+returns-in_err-check_font c = handed_on _ _ c.from_residual.ensures.1 ∙ search (refusal_found, font_refusal_is, c.in_err-check_font.ensures)
 
 pub loop-k-preserved : goal.loop-k-preserved
-loop-k-preserved c = (search rules, search (refusal_more, font_refusal_is))
+loop-k-preserved c = search (refusal_more, font_refusal_is, c.in_ok-check_font.ensures)
 
 pub returns : goal.returns
 returns c = search refusal_done

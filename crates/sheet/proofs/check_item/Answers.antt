@@ -1,21 +1,12 @@
--- Numbers that pass keep the text in its slot, so text and tail lie in the file; the tail is tested before the text. Assumes nothing.
-use Rattle.sheet.proofs.Outcomes.{item_refused, text_fits, tail_in, text_in, item_tail, item_text}
+-- Numbers that pass keep the text in its slot, so text and tail lie in the file. Assumes nothing.
+use Rattle.sheet.proofs.Outcomes.{text_fits, tail_in, text_in}
 use Rattle.sheet.proofs.check_item.Goals as goal
 
-pub returns-then-n-ne0 : goal.returns-then-n-ne0
-returns-then-n-ne0 c = search item_refused
-
 pub overflow_sub-size : goal.overflow_sub-size
-overflow_sub-size c = search text_fits
+overflow_sub-size c = text_fits _ _ _ _ c.item_fields.ensures c.font_count.ensures c.in_ok-item_limits.ensures _ _ c.u16_at-size.ensures.0 c.u16_at-len.ensures.0
 
 pub part-requires : goal.part-requires
-part-requires c = search tail_in
+part-requires c = tail_in _ _ _ _ c.item_fields.ensures c.font_count.ensures c.in_ok-item_limits.ensures _ _ c.u16_at-size.ensures.0 c.u16_at-len.ensures.0 _ c.u32_at-slot.ensures.0 c.requires
 
-pub part-requires-then-all_zero : goal.part-requires-then-all_zero
-part-requires-then-all_zero c = search text_in
-
-pub returns-then-all_zero : goal.returns-then-all_zero
-returns-then-all_zero c = search item_text
-
-pub returns : goal.returns
-returns c = search item_tail
+pub part-requires-2 : goal.part-requires-2
+part-requires-2 c = text_in _ _ _ _ c.item_fields.ensures c.font_count.ensures c.in_ok-item_limits.ensures _ _ c.u16_at-size.ensures.0 c.u16_at-len.ensures.0 _ c.u32_at-slot.ensures.0 c.requires

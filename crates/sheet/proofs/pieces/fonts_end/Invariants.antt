@@ -1,5 +1,5 @@
 -- The loop keeps where the pieces of the fonts that are left end, from p on. Assumes nothing.
-use Prim.Native.Nat.{◌≤◌, ◌-◌}
+use Prim.Native.Nat.{◌-◌}
 use mathlib.Core.Path.{◌≡◌}
 use Rattle.sheet.specs.Fields.{font_count}
 use Rattle.sheet.specs.Pieces.{font_pieces, pieces_of}
@@ -7,7 +7,4 @@ use Rattle.sheet.specs.Check.{reach}
 use Rattle.sheet.proofs.pieces.fonts_end.Given as goal
 
 abbrev pub invariant-loop-k : goal.invariant-loop-k
-invariant-loop-k l = (l.k ≤ l.fonts) × (reach (pieces_of (font_pieces l.sheet) (l.fonts - l.k) l.k) l.p ≡ reach (pieces_of (font_pieces l.sheet) (font_count l.sheet) 0) l.from)
-
-abbrev pub decreases-loop-k : goal.decreases-loop-k
-decreases-loop-k l = l.fonts - l.k
+invariant-loop-k l = reach (pieces_of (font_pieces l.bytes) (l.fonts - l.k) l.k) l.p ≡ reach (pieces_of (font_pieces l.bytes) (font_count l.bytes) 0) l.from
