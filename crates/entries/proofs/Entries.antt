@@ -2,44 +2,24 @@
 use Prim.Native.Nat.{ℕ, zero, suc, ◌+◌, ◌-◌, ◌≤◌, ◌<◌}
 use native.Mathlib.Omega.{arith}
 use mathlib.Core.Path.{◌≡◌, refl, sym, ap, ◌∙◌}
-use mathlib.Core.Bool.{Bool, true, false, not, cond, true≢false, and-eq-true_iff}
+use mathlib.Core.Bool.{Bool, true, false, cond, true≢false, and-eq-true_iff}
 use mathlib.Core.List.{List, [], ◌∷◌}
 use lib.Dec.{leb, eqb}
-use lib.IntN.{ℤ}
-use lib.ListN.{length, get_or, take, drop, length-drop, drop_of_length-le}
-use lib.Seq.{drop-drop, take_all}
-use mir.Syntax.{w32}
-use mir.Val.{to_z, of_z, SFits}
-use mir.Facts.{to_z-of_z}
-use borrow.Author.Tests.{le-leb, lt-leb, leb-true, eq-eqb, ne_eqb, eqb-true}
-use Rattle.sheet.specs.Fields.{le32_at, part}
-use Rattle.sheet.specs.Edits.{new_text, new_place, new_style}
-use Rattle.entries.specs.Entries.{kind_of, item_of, data_length, data_of, behind, signed_of, edit_of, is_known, is_entry, fold_by, fold, is_filled, edits_of}
+use lib.ListN.{length, get_or, take, drop, length-drop}
+use lib.Seq.{take_all}
+use borrow.Author.Tests.{le-leb, lt-leb, leb-true, eqb-true, eqb-false}
+use Rattle.sheet.specs.Fields.{part}
+use Rattle.entries.specs.Entries.{kind_of, data_length, data_of, behind, edit_of, is_known, is_entry, fold_by, fold, is_filled, edits_of}
 
 -- ---- parts of a list
-
-pub rest_is : (l : List ℕ) (at : ℕ) → take (length l - at) (drop at l) ≡ drop at l
-rest_is l at = take_all (length l - at) (drop at l) (simp length-drop (omega arith))
 
 pub data_is : (l : List ℕ) (end : ℕ) → end ≡ 4 + data_length l → take (end - 4) (drop 4 l) ≡ data_of l
 unfolding data_of part
 data_is l end e = let n : end - 4 ≡ data_length l = omega arith in rw n
 
--- ---- kinds
-
-module _ (kind size : ℕ) where
-  pub known_text : kind ≡ 0 → true ≡ is_known kind size
-  unfolding is_known
-  known_text e = rw (eq-eqb kind 0 e)
-
-  module _ (n : kind ≡ 0 → ⊥) where
-    pub known_place : kind ≡ 1 → eqb size 8 ≡ is_known kind size
-    unfolding is_known
-    known_place e = rw (ne_eqb kind 0 n, eq-eqb kind 1 e)
-
-    pub known_style : (kind ≡ 1 → ⊥) → eqb kind 2 ≡ is_known kind size
-    unfolding is_known
-    known_style m = rw (ne_eqb kind 0 n, ne_eqb kind 1 m)
+pub behind_is : (l : List ℕ) (n : ℕ) → n ≡ data_length l → take (length l - (4 + n)) (drop (4 + n) l) ≡ behind l
+unfolding behind
+behind_is l n e = rw e (take_all (length l - (4 + data_length l)) (drop (4 + data_length l) l) (simp length-drop (omega arith)))
 
 -- ---- an entry at the head
 
@@ -58,6 +38,9 @@ module _ (l : List ℕ) where
   unfolding is_entry
   whole n r e g h q = rw (le-leb (4 + data_length l) (length l) (omega arith), ← e) q
 
+  pub whole_known : (n : ℕ) (r : Bool) → n ≡ data_length l → 4 ≤ length l → n ≤ length l - 4 → r ≡ is_known (kind_of l) (data_length l) → r ≡ is_entry l
+  whole_known n r e g h q = whole n r e g h (rw e q)
+
   module _ (q : is_entry l ≡ true) where
     pub entry_tests : (leb (4 + data_length l) (length l) ≡ true) × (is_known (kind_of l) (data_length l) ≡ true)
     unfolding is_entry
@@ -65,45 +48,6 @@ module _ (l : List ℕ) where
 
     pub entry_in : 4 + data_length l ≤ length l
     entry_in = leb-true _ _ entry_tests.0
-
-    pub entry_whole : (n : ℕ) → n ≡ data_length l → 4 + n ≤ length l
-    entry_whole n e = omega (arith, entry_in)
-
-    pub entry_head : 4 ≤ length l
-    entry_head = omega (arith, entry_in)
-
-    pub kind_in : 0 < length l
-    kind_in = omega (arith, entry_in)
-
-    pub item_in : 1 < length l
-    item_in = omega (arith, entry_in)
-
-    -- a place has 8 bytes
-    module _ (k : ℕ) (e : k ≡ kind_of l) (one : k ≡ 1) where
-      pub place_y_in : 12 ≤ length l
-      place_y_in =
-          let n : kind_of l ≡ 0 → ⊥ = λ z. omega arith in
-          let size : eqb (data_length l) 8 ≡ true = known_place (kind_of l) (data_length l) n (sym e ∙ one) ∙ entry_tests.1 in
-          omega (arith, entry_in, eqb-true (data_length l) 8 size)
-
-      pub place_x_in : 8 ≤ length l
-      place_x_in = omega (arith, place_y_in)
-
-  -- the edit, by its kind
-  module _ (k i : ℕ) (e : k ≡ kind_of l) (ei : i ≡ item_of l) where
-    pub text_entry : (t : List ℕ) → t ≡ data_of l → k ≡ 0 → edit_of l ≡ new_text i t
-    unfolding edit_of
-    text_entry t et z = rw (← e, eq-eqb k 0 z, ← ei, ← et)
-
-    -- x and y are handed on as 32 bits
-    pub place_entry : (x y : ℤ) → SFits w32 x → SFits w32 y → x ≡ signed_of (le32_at l 4) → y ≡ signed_of (le32_at l 8) → (k ≡ 0 → ⊥) → k ≡ 1
-        → edit_of l ≡ new_place i (to_z w32 (of_z w32 x)) (to_z w32 (of_z w32 y))
-    unfolding edit_of
-    place_entry x y fx fy ex ey n z = rw (← e, ne_eqb k 0 n, eq-eqb k 1 z, ← ei, ← ex, ← ey, to_z-of_z {z = x} fx, to_z-of_z {z = y} fy)
-
-    pub style_entry : (t : List ℕ) → t ≡ data_of l → (k ≡ 0 → ⊥) → (k ≡ 1 → ⊥) → edit_of l ≡ new_style i t
-    unfolding edit_of
-    style_entry t et n m = rw (← e, ne_eqb k 0 n, ne_eqb k 1 m, ← ei, ← et)
 
 -- ---- the walk
 
@@ -140,42 +84,27 @@ module _ {A : Type 0} (f : List ℕ → A → A) (bad end : A) where
   fold_bad [] h q = absurd (omega arith)
   fold_bad (x ∷ l) h q = rw q
 
--- ---- from an offset on
+-- ---- what is left of a list
 
-told_false : (t u : Bool) → t ≡ u → not t ≡ true → u ≡ false
-told_false t true e z = absurd (true≢false (sym z ∙ ap not e))
-told_false t false e z = refl
-
-told_true : (t u : Bool) → t ≡ u → not t ≡ false → u ≡ true
-told_true t true e z = refl
-told_true t false e z = absurd (true≢false (sym (ap not e) ∙ z))
-
-pub entry_there : (l : List ℕ) (t : Bool) → t ≡ is_entry l → not t ≡ false → is_entry l ≡ true
-entry_there l t q z = told_true t (is_entry l) q z
-
-module _ (l e : List ℕ) (at : ℕ) (h : at < length l) (here : e ≡ drop at l) where
-  not_empty : 0 < length e
-  not_empty = rw here (simp length-drop (omega arith))
-
-  pub not_filled : (t : Bool) → is_filled (drop at l) ≡ is_filled l → t ≡ is_entry e → not t ≡ true → false ≡ is_filled l
-  unfolding is_filled
-  not_filled t inv q z = sym (fold_bad _ _ _ e not_empty (told_false t (is_entry e) q z)) ∙ ap is_filled here ∙ inv
-
-  module _ (n : ℕ) (size : n ≡ 4 + data_length e) where
-    pub entry_within : n ≤ length e → at + n ≤ length l
-    entry_within g = let m : length e ≡ length l - at = ap length here ∙ length-drop at l in omega arith
-
-    pub next_entry : behind e ≡ drop (at + n) l
-    unfolding behind
-    next_entry = rw (← size, here) (drop-drop n at l)
-
-    pub filled_again : (t : Bool) → is_filled (drop at l) ≡ is_filled l → t ≡ is_entry e → not t ≡ false → is_filled (drop (at + n) l) ≡ is_filled l
-    unfolding is_filled
-    filled_again t inv q z = ap is_filled (sym next_entry) ∙ sym (fold_entry _ _ _ e (entry_there e t q z)) ∙ ap is_filled here ∙ inv
-
-pub filled_end : (l : List ℕ) (at : ℕ) → length l ≤ at → is_filled (drop at l) ≡ is_filled l → true ≡ is_filled l
+pub filled_none : is_filled [] ≡ true
 unfolding is_filled
-filled_end l at h inv = sym (fold_end _ _ _) ∙ ap is_filled (sym (drop_of_length-le l {i = at} h)) ∙ inv
+filled_none = fold_end _ _ _
+
+pub behind_shorter : (l : List ℕ) → true ≡ is_entry l → length (behind l) < length l
+unfolding behind
+behind_shorter l q = simp length-drop (omega (arith, entry_in l (sym q)))
+
+module _ (l left : List ℕ) (inv : is_filled left ≡ is_filled l) (t : Bool) (e : t ≡ eqb (length left) 0) where
+  pub not_filled : t ≡ false → false ≡ is_entry left → false ≡ is_filled l
+  unfolding is_filled
+  not_filled f q = let n = eqb-false (length left) 0 (sym e ∙ f) in sym (fold_bad _ _ _ left (omega arith) (sym q)) ∙ inv
+
+  pub filled_end : t ≡ true → true ≡ is_filled l
+  filled_end f = go left (eqb-true (length left) 0 (sym e ∙ f)) inv
+    where
+      go : (left : List ℕ) → length left ≡ 0 → is_filled left ≡ is_filled l → true ≡ is_filled l
+      go [] z i = sym filled_none ∙ i
+      go (x ∷ r) z i = absurd (omega arith)
 
 -- an entry stands where a filled list goes on
 pub filled_entry : (l : List ℕ) → 0 < length l → is_filled l ≡ true → is_entry l ≡ true

@@ -1,115 +1,76 @@
 // The entries of a list of edits, read where they stand.
 #![tactic(auto)]
 
-ghost use Rattle.std.specs.Prelude.{◌≡◌, true, ◌+◌, ◌≤◌, length, drop};
-ghost use Rattle.std.specs.Int.{w32};
-ghost use Rattle.std.proofs.Common.{to_z};
+ghost use Rattle.std.specs.Prelude.{◌≡◌, ◌+◌, ◌≤◌, length, IfSome};
+ghost use Rattle.std.specs.Option.{is_some};
 ghost use Rattle.sheet.specs.Fields.{le32_at};
-ghost use Rattle.entries.specs.Entries.{kind_of, item_of, data_length, data_of, signed_of, is_known, is_entry, is_filled};
+ghost use Rattle.sheet.specs.OfItem.{of_item};
+ghost use Rattle.entries.specs.Entries.{kind_of, item_of, data_length, behind, signed_of, edit_of, is_known, is_entry, is_filled};
 
-use numbers::wide;
-use sheet::fields::{u16_at, u32_at};
+use sheet::edit::Edit;
+use sheet::fields::u16_at;
 
-// The bytes from `at` on.
-pub fn rest(list: &[u8], at: usize) -> &[u8]
-    requires { at ≤ length list.now }
-    ensures { result.now ≡ drop at list.now }
-{
-    let end = list.len();
-    &list[at..end]
+// An edit, and the number of its item.
+#[derive(Clone, Copy, Debug, PartialEq, Eq)]
+pub struct Entry<'a> {
+    pub item: u32,
+    pub edit: Edit<'a>,
 }
 
-// Whether an entry of this kind may have so many bytes of data.
-fn is_known(kind: u8, size: usize) -> bool
-    ensures { result ≡ is_known kind size }
+// The signed number that the four bytes from `at` on store.
+fn i32_at(list: &[u8], at: usize) -> i32
+    requires { at + 4 ≤ length list.now }
+    ensures { result ≡ signed_of (le32_at list.now at) }
 {
-    if kind == 0 {
-        return true;
-    }
-    if kind == 1 {
-        return size == 8;
-    }
-    kind == 2
+    i32::from_le_bytes([list[at], list[at + 1], list[at + 2], list[at + 3]])
 }
 
-// Whether an entry stands at the head of a list, whole.
-fn is_entry(list: &[u8]) -> bool
-    ensures { result ≡ is_entry list.now }
+// The edit of the entry at the head of a list, whose data end at `end`: none of an unknown kind, nor a place that is not 8 bytes long.
+#[tactic(auto, using(characters::proofs::Tests::tests, crate::proofs::Entries::data_is), unfolding(crate::specs::Entries::edit_of, crate::specs::Entries::is_known, crate::specs::Entries::data_of))]
+fn edit_of(list: &[u8], end: usize) -> Option<Edit<'_>>
+    requires value { end ≡ 4 + data_length list.now }
+    requires within { end ≤ length list.now }
+    ensures known { is_some result ≡ is_known (kind_of list.now) (data_length list.now) }
+    ensures value { IfSome result (λ edit. of_item (item_of list.now) edit ≡ edit_of list.now) }
+{
+    let data = &list[4..end];
+    match list[0] {
+        0 => Some(Edit::Text(data)),
+        1 if data.len() == 8 => Some(Edit::Place(i32_at(list, 4), i32_at(list, 8))),
+        2 => Some(Edit::Style(data)),
+        _ => None,
+    }
+}
+
+// The entry at the head of a list, and the bytes behind it, where an entry stands there, whole.
+pub fn first_entry(list: &[u8]) -> Option<(Entry<'_>, &[u8])>
+    ensures whole { is_some result ≡ is_entry list.now }
+    ensures value { IfSome result (λ p. of_item p.0.item p.0.edit ≡ edit_of list.now) }
+    ensures rest { IfSome result (λ p. p.1.now ≡ behind list.now) }
 {
     if list.len() < 4 {
-        return false;
+        return None;
     }
     let size = u16_at(list, 2);
     if list.len() - 4 < size {
-        return false;
+        return None;
     }
-    is_known(list[0], size)
-}
-
-// How many bytes the entry at the head of a list has.
-pub fn entry_length(list: &[u8]) -> usize
-    requires { is_entry list.now ≡ true }
-    ensures value { result ≡ 4 + data_length list.now }
-    ensures upper_bound { result ≤ length list.now }
-{
-    4 + u16_at(list, 2)
+    let end = 4 + size;
+    let edit = edit_of(list, end)?;
+    let item = u32::from(list[1]);
+    Some((Entry { item, edit }, &list[end..]))
 }
 
 // Whether entries fill the list.
 pub fn is_filled(list: &[u8]) -> bool
     ensures { result ≡ is_filled list.now }
 {
-    let mut at = 0;
-    while at < list.len() {
-        let entry = rest(list, at);
-        if !is_entry(entry) {
+    let mut left = list;
+    while !left.is_empty() {
+        let Some((_, rest)) = first_entry(left) else {
             return false;
-        }
-        at += entry_length(entry);
+        };
+        left = rest;
     }
     true
-}
-
-// The kind of the entry at the head of a list.
-pub fn kind_of(list: &[u8]) -> u8
-    requires { is_entry list.now ≡ true }
-    ensures { result ≡ kind_of list.now }
-{
-    list[0]
-}
-
-// The number of its item.
-pub fn item_of(list: &[u8]) -> u32
-    requires { is_entry list.now ≡ true }
-    ensures { result ≡ item_of list.now }
-{
-    wide(list[1])
-}
-
-// Its data.
-pub fn data_of(list: &[u8]) -> &[u8]
-    requires { is_entry list.now ≡ true }
-    ensures { result.now ≡ data_of list.now }
-{
-    let end = entry_length(list);
-    &list[4..end]
-}
-
-// The signed number whose 32 bits in two's complement are those of `n`.
-pub fn signed(n: u32) -> i32
-    ensures { result ≡ to_z w32 n }
-{
-    if n < 2147483648 {
-        return n as i32;
-    }
-    let rest = 4294967295 - n;
-    -1 - rest as i32
-}
-
-// The signed number that the four bytes from `at` on store.
-pub fn i32_at(list: &[u8], at: usize) -> i32
-    requires { at + 4 ≤ length list.now }
-    ensures { result ≡ signed_of (le32_at list.now at) }
-{
-    signed(u32_at(list, at) as u32)
 }

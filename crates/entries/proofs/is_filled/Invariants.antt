@@ -1,12 +1,11 @@
--- The invariant: what stands from the offset on is filled exactly if the whole list is. Assumes nothing.
-use Prim.Native.Nat.{◌≤◌, ◌-◌}
+-- The invariant: what is left is filled exactly if the whole list is. Assumes nothing.
 use mathlib.Core.Path.{◌≡◌}
-use lib.ListN.{length, drop}
+use lib.ListN.{length}
 use Rattle.entries.specs.Entries.{is_filled}
 use Rattle.entries.proofs.is_filled.Given as goal
 
-abbrev pub invariant-loop-at : goal.invariant-loop-at
-invariant-loop-at l = (l.at ≤ length l.list) × (is_filled (drop l.at l.list) ≡ is_filled l.list)
+abbrev pub invariant-loop-left : goal.invariant-loop-left
+invariant-loop-left l = is_filled l.left ≡ is_filled l.list
 
-abbrev pub decreases-loop-at : goal.decreases-loop-at
-decreases-loop-at l = length l.list - l.at
+abbrev pub decreases-loop-left : goal.decreases-loop-left
+decreases-loop-left l = length l.left
