@@ -1,16 +1,16 @@
 -- A signed number of 32 bits, as the code reads it: its range, and its coordinate. Assumes nothing.
 use Prim.Native.Nat.{ℕ, suc, ◌-◌, ◌≤◌, ◌<◌, ◌^◌}
-use mathlib.Core.Path.{◌≡◌, refl, sym, ◌∙◌, ap}
+use mathlib.Core.Path.{◌≡◌, refl, ◌∙◌, ap}
 use mathlib.Core.Bool.{Bool, true, false, cond}
 use mathlib.Core.List.{List}
 use lib.Dec.{T, ltb}
 use lib.IntN.{ℤ, pos, negsuc, nat_abs, ◌+ℤ◌}
-use lib.Signed.{lt_z, non_neg}
+use lib.Signed.{non_neg}
 use native.Mathlib.Omega.{arith}
 use mir.Syntax.{w32}
 use mir.Val.{to_z, of_z, Fits, SFits}
 use mir.Facts.{to_z-of_z}
-use borrow.Author.Tests.{lt-ltb, le-ltb, ltb-true, ltb-false}
+use borrow.Author.Tests.{le-ltb, ltb-true, ltb-false}
 use Rattle.geometry.specs.Layer.{origin, signed}
 use Rattle.sheet.specs.Fields.{item_at}
 use Rattle.sheet.specs.Edits.{in_range, biased, new_place, place_refusal, refusal, put_place, edited}
@@ -18,16 +18,6 @@ use Rattle.sheet.specs.Edits.{in_range, biased, new_place, place_refusal, refusa
 -- the number that the code reads
 abbrev pub read : ℤ → ℤ
 read z = to_z w32 (of_z w32 z)
-
-low : (z : ℤ) → lt_z z (negsuc 32_767) ≡ true → false ≡ in_range z
-unfolding in_range
-low (pos n) e = let z : ◌≡◌ {A = ℕ} 0 1 = cc in absurd (omega arith)
-low (negsuc n) e = sym (le-ltb n 32_768 (omega (arith, ltb-true 32_767 n e)))
-
-not_low : (z : ℤ) → lt_z z (negsuc 32_767) ≡ false → lt_z z (pos 32_768) ≡ in_range z
-unfolding in_range
-not_low (pos n) e = refl
-not_low (negsuc n) e = sym (lt-ltb n 32_768 (omega (arith, ltb-false 32_767 n e)))
 
 moved : (z : ℤ) → in_range z ≡ true → z +ℤ pos origin ≡ pos (biased z)
 unfolding in_range biased
@@ -49,12 +39,6 @@ biased-signed x = go (ltb x origin) refl
     go false e = omega (arith, ltb-false x origin e)
 
 module _ (z : ℤ) (f : SFits w32 z) where
-  pub below : lt_z (read z) (negsuc 32_767) ≡ true → false ≡ in_range z
-  below h = low z (rw (to_z-of_z {z = z} f) at h)
-
-  pub not_below : lt_z (read z) (negsuc 32_767) ≡ false → lt_z (read z) (pos 32_768) ≡ in_range z
-  not_below h = rw (to_z-of_z {z = z} f) (not_low z (rw (to_z-of_z {z = z} f) at h))
-
   module _ (h : in_range z ≡ true) where
     sum : read z +ℤ pos origin ≡ pos (biased z)
     sum = ap (λ (x : ℤ). x +ℤ pos origin) (to_z-of_z {z = z} f) ∙ moved z h

@@ -1,9 +1,6 @@
--- A text that is not refused fits the slot of an item that is listed. Assumes nothing.
-use Rattle.edits.proofs.Stored.{text_fits}
+-- The two stores are the definition's; the slot is the part of the file that the second one replaces. Assumes nothing.
+use Rattle.edits.proofs.Stored.{text_stored}
 use Rattle.edits.proofs.put_text.Goals as goal
 
-pub store_text-requires : goal.store_text-requires
-store_text-requires c = search text_fits
-
 pub returns : goal.returns
-returns c = cc
+returns c = search text_stored
