@@ -11,7 +11,7 @@ use native.Mathlib.Decide.{dec_lt}
 use borrow.Author.Tests.{ne_eqb, eqb-true, not-false}
 use lib.ListN.{length, get_or, take, drop, length-drop}
 use Rattle.std.proofs.Math.Seq.{take-length}
-use Rattle.std.proofs.lemmas.List.{get_or-drop}
+use Rattle.std.proofs.lemmas.List.{get_or-drop, get_or-take}
 use Rattle.std.proofs.lemmas.List.Sums.{fails_before_first, prefix_len-le-length, prefix_len_stops}
 use Rattle.std.specs.List.{position_or_len}
 use mir.Val.{Fits}
@@ -39,6 +39,24 @@ module _ (s : List ℕ) (at : ℕ) where
 
   rest_length : length (bytes_from s at) ≡ length s - at
   rest_length = ap length rest_is ∙ length-drop at s
+
+  begins_after : (p : Needle) (q : ℕ) → may_begin_at (bytes_from s at) p q ≡ may_begin_at s p (at + q)
+  begins_after p q =
+      let e : (j : ℕ) → at + (q + j) ≡ at + q + j = λ j. omega arith in
+      rw (rest_byte q, rest_byte (q + p.near), rest_byte (q + p.mid), rest_byte (q + p.end), e p.near, e p.mid, e p.end)
+
+  begins_first : (p : Needle) → may_begin_at (bytes_from s at) p 0 ≡ may_begin_at s p at
+  begins_first p = begins_after p 0 ∙ (let e : at + 0 ≡ at = omega arith in rw e)
+
+-- n bytes from a position on
+abbrev pub part : List ℕ → ℕ → ℕ → List ℕ
+part s at n = take (at + n - at) (drop at s)
+
+take_byte : (s : List ℕ) (at n j : ℕ) → j < n → get_or (take n (drop at s)) j 0 ≡ get_or s (at + j) 0
+take_byte s at n j l = get_or-take n (drop at s) j 0 l ∙ get_or-drop at s j 0
+
+part_byte : (s : List ℕ) (at n j : ℕ) → j < n → get_or (part s at n) j 0 ≡ get_or s (at + j) 0
+part_byte s at n j l = take_byte s at (at + n - at) j (omega arith)
 
 -- ---- lead bytes
 
@@ -69,10 +87,6 @@ leads_none s at zero c = refl
 leads_none s at (suc n) c = rw (leads_none s at n (λ j l. c j (omega arith)), c n (omega arith))
 
 module _ (s : List ℕ) (at : ℕ) where
-  pub leads-start : 0 ≡ leads s at 0
-  unfolding leads
-  leads-start = refl
-
   leads-none-yet : 0 ≡ leads s at (at - at)
   unfolding leads
   leads-none-yet = let e : at - at ≡ 0 = omega arith in rw e
@@ -87,49 +101,81 @@ module _ (s : List ℕ) (at : ℕ) where
   leads-fit : (to k n v : ℕ) → at ≤ to → k ≡ leads s at (to - at) → v ≤ n → to + n ≤ length s → Fits w64 (length s) → Fits w64 (k + v)
   leads-fit to k n v h e l m f = omega (arith, leads_le s at (to - at))
 
-  pub counted_start : (n : ℕ) → 0 ≡ leads s at (min 0 n)
+module _ (s : List ℕ) where
+  pub leads-start : 0 ≡ leads s 0 0
+  unfolding leads
+  leads-start = refl
+
+  -- one byte more
+  module _ (i n v b : ℕ) (t : Bool) (e : n ≡ leads s 0 i) (h : v ≡ from_bool t) where
+    pub leads_more : t ≡ is_lead b → b ≡ get_or s i 0 → n + v ≡ leads s 0 (i + 1)
+    unfolding leads
+    leads_more f g = let z : 0 + i ≡ i = omega arith in rw (add-one i, z, e, h, one_is t, f, g)
+
+    pub leads_fit : i < length s → length s ≡ 128 → Fits w8 (n + v)
+    leads_fit l m = omega (arith, leads_le s 0 i, one_is t, one_le t)
+
+  pub counted_start : (n : ℕ) → 0 ≡ leads s 0 (min 0 n)
   unfolding leads
   counted_start n = let m : min 0 n ≡ 0 = omega arith in rw m
 
-  -- one byte more
-  pub leads_more : (i n v b : ℕ) (t : Bool) → n ≡ leads s at i → t ≡ is_lead b → b ≡ get_or s (at + i) 0 → v ≡ from_bool t → n + v ≡ leads s at (i + 1)
-  unfolding leads
-  leads_more i n v b t e f g h = rw (add-one i, e, h, one_is t, f, g)
-
-  pub leads-fits : (i n v : ℕ) (t : Bool) → i < 128 → n ≡ leads s at i → v ≡ from_bool t → Fits w8 (n + v)
-  leads-fits i n v t l e h = omega (arith, leads_le s at i, one_is t, one_le t)
-
   -- one byte more, of those before n
-  pub counted_more : (n i k x y v b p : ℕ) (t : Bool) → p ≡ i → k ≡ leads s at (min i n) → t ≡ is_lead b → b ≡ get_or s (at + i) 0
-      → x ≡ from_bool t → y ≡ n - p → v ≡ min x y → k + v ≡ leads s at (min (i + 1) n)
-  counted_more n i k x y v b p t q e f g h w u = elim (dec_lt i n) [
-    | yes l ↦ (
-        let m : min i n ≡ i = omega arith in
-        let m' : min (i + 1) n ≡ i + 1 = omega arith in
-        rw m' (leads_more i k v b t (rw m at e) f g (let o = one_le t in let z = one_is t in omega arith))
-        )
-    | no l ↦ (
-        let m : min (i + 1) n ≡ min i n = omega arith in
-        rw m (omega arith)
-        )
-  ]
+  module _ (n i k x y v : ℕ) (t : Bool) (e : k ≡ leads s 0 (min i n)) (h : x ≡ from_bool t) where
+    pub counted_more : (b p : ℕ) → p ≡ i → t ≡ is_lead b → b ≡ get_or s i 0 → y ≡ n - p → v ≡ min x y → k + v ≡ leads s 0 (min (i + 1) n)
+    counted_more b p q f g w u = elim (dec_lt i n) [
+      | yes l ↦ (
+          let m : min i n ≡ i = omega arith in
+          let m' : min (i + 1) n ≡ i + 1 = omega arith in
+          rw m' (leads_more i k v b t (rw m at e) (let o = one_le t in let z = one_is t in omega arith) f g)
+          )
+      | no l ↦ (
+          let m : min (i + 1) n ≡ min i n = omega arith in
+          rw m (omega arith)
+          )
+    ]
 
-  pub counted-fits : (n i k x y v : ℕ) (t : Bool) → i < 64 → k ≡ leads s at (min i n) → x ≡ from_bool t → v ≡ min x y → Fits w8 (k + v)
-  counted-fits n i k x y v t l e h w = omega (arith, leads_le s at (min i n), one_is t, one_le t)
+    pub counted_fits : i < 64 → v ≡ min x y → Fits w8 (k + v)
+    counted_fits l u = omega (arith, leads_le s 0 (min i n), one_is t, one_le t)
 
-  -- ---- 128 bytes
-
-  pub bounded_more : (i most m b : ℕ) → ((j : ℕ) → j < i → before (get_or s (at + j) 0) ≤ most) → b ≡ get_or s (at + i) 0 → m ≡ max most ((b + 255) % 256)
-      → (j : ℕ) → j < i + 1 → before (get_or s (at + j) 0) ≤ m
+  pub bounded_more : (i most m b : ℕ) → ((j : ℕ) → j < i → before (get_or s j 0) ≤ most) → b ≡ get_or s i 0 → m ≡ max most ((b + 255) % 256)
+      → (j : ℕ) → j < i + 1 → before (get_or s j 0) ≤ m
   unfolding before
   bounded_more i most m b h f g j l = elim (dec_lt j i) [
     | yes k ↦ omega (arith, h j k)
     | no k ↦ (
         let q : j ≡ i = omega arith in
-        let y : b ≡ get_or s (at + j) 0 = rw q f in
+        let y : b ≡ get_or s j 0 = rw q f in
         omega arith
         )
   ]
+
+-- ---- what is said of a part
+
+module _ (s : List ℕ) (at : ℕ) where
+  leads_take : (n m : ℕ) → n ≤ m → leads (take m (drop at s)) 0 n ≡ leads s at n
+  unfolding leads
+  leads_take zero m l = refl
+  leads_take (suc n) m l = let e : 0 + n ≡ n = omega arith in rw (leads_take n m (omega arith), e, take_byte s at m n (omega arith))
+
+  block_part : (b : Block) → OfBlock (part s at 128) 0 b → OfBlock s at b
+  block_part b o = record {
+    bounded = λ j l. let e : 0 + j ≡ j = omega arith in rw (← part_byte s at 128 j l) (rw e at (o.bounded j l));
+    counted = o.counted ∙ leads_take 128 (at + 128 - at) (omega arith);
+  }
+
+  hit_part : (p : Needle) (r : ℕ) → IsNeedle p → OfHit (part s at 67) p 0 r → OfHit s p at r
+  hit_part p r i o = record {
+    most = o.most;
+    clear = λ j l.
+        let c = o.clear j l in
+        let e : 0 + j ≡ j = omega arith in
+        let n = i.near_within in
+        let m = i.mid_within in
+        let d = i.end_within in
+        let z : (k : ℕ) → k ≤ 3 → get_or (part s at 67) (j + k) 0 ≡ get_or s (at + j + k) 0 =
+        λ k h. part_byte s at 67 (j + k) (omega arith) ∙ (let y : at + (j + k) ≡ at + j + k = omega arith in rw y) in
+        rw (← part_byte s at 67 j (omega arith), ← z p.near n, ← z p.mid m, ← z p.end d) (rw e at c);
+  }
 
 -- ---- bytes that are passed over
 
@@ -227,10 +273,11 @@ module _ (s : List ℕ) (limit : ℕ) where
 
   module _ (k n : ℕ) (g : Below s limit 0 (record { at = 128 * k; count = n })) where
     -- a block more
-    module _ (l : k < length s / 128) (b : Block) (o : OfBlock s (128 * k) b) (v : ℕ) (w : v ≡ b.leads) where
+    module _ (l : k < length s / 128) (b : Block) (h : OfBlock (part s (128 * k) 128) 0 b) (v : ℕ) (w : v ≡ b.leads) where
       pub below_block : (m : ℕ) → m ≡ (limit + 255) % 256 → b.most < m → Below s limit 0 (record { at = 128 * (k + 1); count = n + v })
       unfolding before
-      below_block m i h =
+      below_block m i c =
+          let o = block_part s (128 * k) b h in
           let z : 128 * (k + 1) ≡ 128 * k + 128 = omega arith in
           rw z (record {
             forward = omega arith;
@@ -247,7 +294,7 @@ module _ (s : List ℕ) (limit : ℕ) where
           })
 
       pub block_fits : Fits w64 (length s) → Fits w64 (n + v)
-      block_fits f = leads-fit s 0 (128 * k) n 128 v g.forward g.counted (omega (arith, leads_le s (128 * k) 128, o.counted)) (omega arith) f
+      block_fits f = let o = block_part s (128 * k) b h in leads-fit s 0 (128 * k) n 128 v g.forward g.counted (omega (arith, leads_le s (128 * k) 128, o.counted)) (omega arith) f
 
 pub passes_lead : (s : List ℕ) (p : Needle) (from : ℕ) (r : Passed) → Below s p.lead from r → Passes s p from (record { at = r.at + 0; count = r.count })
 passes_lead s p from r g = let e : r.at + 0 ≡ r.at = omega arith in rw e (below-passes s p.lead from r g p (omega arith))
@@ -279,34 +326,45 @@ module _ (s : List ℕ) (p : Needle) (from : ℕ) where
     pub byte_fits : (v : ℕ) (t : Bool) → at < length s → v ≡ from_bool t → Fits w64 (length s) → Fits w64 (k + v)
     byte_fits v t h e f = passes-fits 1 v (let o = one_le t in let z = one_is t in omega arith) (omega arith) f
 
-    pub passes_byte : (v : ℕ) (t u : Bool) → at < length s → u ≡ may_begin_at s p at → u ≡ false → t ≡ is_lead (get_or s at 0) → v ≡ from_bool t
+    pub passes_byte : (v : ℕ) (t u : Bool) → at < length s → u ≡ may_begin_at (bytes_from s at) p 0 → u ≡ false → t ≡ is_lead (get_or s at 0) → v ≡ from_bool t
         → Passes s p from (record { at = at + 1; count = k + v })
     unfolding leads
     passes_byte v t u h o n f e =
         let z : at + 0 ≡ at = omega arith in
-        passes-more 1 v (omega arith) (rw z (e ∙ one_is t ∙ rw f (omega arith))) (λ j l. let i : j ≡ 0 = omega arith in rw (i, z, ← o) n)
+        passes-more 1 v (omega arith) (rw z (e ∙ one_is t ∙ rw f (omega arith))) (λ j l. let i : j ≡ 0 = omega arith in rw (i, z, ← begins_first s at p, ← o) n)
 
-    pub skips_begin : (u : Bool) → IsNeedle p → u ≡ may_begin_at s p at → u ≡ true → Skips s p from (record { at = at; count = k })
-    skips_begin u i o y = record { passes = g; boundary = λ h. begins_lead p _ _ _ _ i.leads (sym o ∙ y) }
+    pub skips_begin : (u : Bool) → IsNeedle p → u ≡ may_begin_at (bytes_from s at) p 0 → u ≡ true → Skips s p from (record { at = at; count = k })
+    skips_begin u i o y = record { passes = g; boundary = λ h. begins_lead p _ _ _ _ i.leads (sym (begins_first s at p) ∙ sym o ∙ y) }
 
   -- 64 bytes after `base`, k times
   module _ (base k n : ℕ) (g : Passes s p from (record { at = base + 64 * k; count = n })) where
-    module _ (r : ℕ) (e : r ≡ length s - base - 3) (l : k < r / 64) (left : ℕ) (o : OfHit s p (base + 64 * k) left) where
-      pub through_fits : (u v : ℕ) → u ≡ leads s (base + 64 * k) 64 → v ≡ u → Fits w64 (length s) → Fits w64 (n + v)
-      through_fits u v i w f = passes-fits (base + 64 * k) n g 64 v (omega (arith, leads_le s (base + 64 * k) 64)) (omega arith) f
+    module _ (r : ℕ) (e : r ≡ length s - base - 3) (l : k < r / 64) (left : ℕ) (i : IsNeedle p) (h : OfHit (part s (base + 64 * k) 67) p 0 left) where
+      -- m bytes more
+      module _ (m u v : ℕ) (w : u ≡ leads (part s (base + 64 * k) 64) 0 m) (x : v ≡ u) where
+        counted-part : m ≤ 64 → u ≡ leads s (base + 64 * k) m
+        counted-part y = w ∙ leads_take s (base + 64 * k) m (base + 64 * k + 64 - (base + 64 * k)) (omega arith)
 
-      pub passes_through : (u v : ℕ) → left ≤ 0 → u ≡ leads s (base + 64 * k) 64 → v ≡ u
-          → Passes s p from (record { at = base + 64 * (k + 1); count = n + v })
-      passes_through u v z w x =
-          let i : base + 64 * (k + 1) ≡ base + 64 * k + 64 = omega arith in
-          rw i (passes-more (base + 64 * k) n g 64 v (omega arith) (x ∙ w) (λ j l. o.clear j (omega arith)))
+        more-fits : m ≤ 64 → Fits w64 (length s) → Fits w64 (n + v)
+        more-fits y f = passes-fits (base + 64 * k) n g m v (omega (arith, leads_le s (base + 64 * k) m, counted-part y)) (omega arith) f
 
-      module _ (m u v : ℕ) (i : m ≡ 64 - left) (w : u ≡ leads s (base + 64 * k) m) (x : v ≡ u) where
-        pub upto_fits : Fits w64 (length s) → Fits w64 (n + v)
-        upto_fits f = passes-fits (base + 64 * k) n g m v (omega (arith, leads_le s (base + 64 * k) m)) (omega arith) f
+        more : m + left ≤ 64 → Passes s p from (record { at = base + 64 * k + m; count = n + v })
+        more y =
+            let o = hit_part s (base + 64 * k) p left i h in
+            passes-more (base + 64 * k) n g m v (omega arith) (x ∙ counted-part (omega arith)) (λ j l. o.clear j (omega arith))
 
-        pub passes_hit : (z : ℕ) → z ≡ m → Passes s p from (record { at = base + 64 * k + z; count = n + v })
-        passes_hit z f = rw f (passes-more (base + 64 * k) n g m v (omega arith) (x ∙ w) (λ j l. o.clear j (omega arith)))
+        pub upto_fits : m ≡ 64 - left → Fits w64 (length s) → Fits w64 (n + v)
+        upto_fits q = more-fits (omega arith)
+
+        pub through_fits : m ≡ 64 → Fits w64 (length s) → Fits w64 (n + v)
+        through_fits q = more-fits (omega arith)
+
+        pub passes_hit : (z : ℕ) → z ≡ m → m ≡ 64 - left → Passes s p from (record { at = base + 64 * k + z; count = n + v })
+        passes_hit z f q = let y = h.most in rw f (more (omega arith))
+
+        pub passes_through : m ≡ 64 → left ≤ 0 → Passes s p from (record { at = base + 64 * (k + 1); count = n + v })
+        passes_through q z =
+            let e : base + 64 * (k + 1) ≡ base + 64 * k + m = omega arith in
+            rw e (more (omega arith))
 
 pub passes_start : (s : List ℕ) (p : Needle) → Passes s p 0 (record { at = 0; count = 0 })
 passes_start s p = passes_none s p 0 (omega arith)
@@ -334,11 +392,6 @@ module _ (s : List ℕ) (at : ℕ) where
   unfolding leads
   leads_rest zero = refl
   leads_rest (suc n) = let e : 0 + n ≡ n = omega arith in rw (leads_rest n, e, rest_byte s at n)
-
-  begins_after : (p : Needle) (q : ℕ) → may_begin_at (bytes_from s at) p q ≡ may_begin_at s p (at + q)
-  begins_after p q =
-      let e : (j : ℕ) → at + (q + j) ≡ at + q + j = λ j. omega arith in
-      rw (rest_byte s at q, rest_byte s at (q + p.near), rest_byte s at (q + p.mid), rest_byte s at (q + p.end), e p.near, e p.mid, e p.end)
 
   module _ (h : at ≤ length s) (r : Passed) where
     -- to the end of what was passed over
@@ -380,7 +433,7 @@ module _ (s : List ℕ) (at : ℕ) where
             counted = counted-after a.counted;
             clear = λ q x y.
                 let j : at + (q - at) ≡ q = omega arith in
-                rw j at (sym (begins_after p (q - at)) ∙ a.clear (q - at) (omega arith) (omega arith));
+                rw j at (sym (begins_after s at p (q - at)) ∙ a.clear (q - at) (omega arith) (omega arith));
           };
           boundary = λ l. lead-after g.boundary l;
         }

@@ -132,30 +132,29 @@ fn may_begin(needle: Needle, a: u8, b: u8, c: u8, d: u8) -> bool
     (a == 0) | ((a == needle.lead) & inside)
 }
 
-// The 128 bytes from `at` on.
-fn read_block(bytes: &[u8], at: usize) -> Block
-    requires { at + 128 ≤ length bytes.now }
-    ensures { OfBlock bytes.now at result }
+// What is said of 128 bytes.
+fn read_block(bytes: &[u8]) -> Block
+    requires { length bytes.now ≡ 128 }
+    ensures { OfBlock bytes.now 0 result }
 {
     let mut most: u8 = 0;
     let mut leads: u8 = 0;
-    for i in 0..128 {
-        let b = bytes[at + i];
+    for b in bytes {
         most = most.max(b.wrapping_sub(1));
-        leads += u8::from(is_lead(b));
+        leads += u8::from(is_lead(*b));
     }
     Block { most, leads }
 }
 
 // How many of the first n of 64 bytes are lead bytes.
-fn leads_of(bytes: &[u8], at: usize, n: u8) -> u8
-    requires at_in_bounds { at + 64 ≤ length bytes.now }
+fn leads_of(bytes: &[u8], n: u8) -> u8
+    requires whole { length bytes.now ≡ 64 }
     requires n_bound { n ≤ 64 }
-    ensures { result ≡ leads bytes.now at n }
+    ensures { result ≡ leads bytes.now 0 n }
 {
     let mut count: u8 = 0;
     for i in 0..64 {
-        let lead = u8::from(is_lead(bytes[at + i]));
+        let lead = u8::from(is_lead(bytes[i]));
         count += lead.min(n.saturating_sub(i as u8));
     }
     count
@@ -169,7 +168,7 @@ fn pass_blocks(bytes: &[u8], lead: u8) -> Passed
     let mut count: u64 = 0;
     for k in 0..blocks {
         let at = 128 * k;
-        let block = read_block(bytes, at);
+        let block = read_block(&bytes[at..at + 128]);
         if lead.wrapping_sub(1) <= block.most {
             return Passed { at, count };
         }
@@ -210,12 +209,11 @@ fn byte_on(rest: &[u8], by: usize) -> u8
     rest.get(by).copied().unwrap_or(0)
 }
 
-// Whether a range or the character may begin at a position.
-fn begins_at(bytes: &[u8], at: usize, needle: Needle) -> bool
-    requires { at < length bytes.now }
-    ensures { result ≡ may_begin_at bytes.now needle at }
+// Whether a range or the character may begin with the first of the bytes.
+fn begins(rest: &[u8], needle: Needle) -> bool
+    requires { 0 < length rest.now }
+    ensures { result ≡ may_begin_at rest.now needle 0 }
 {
-    let rest = &bytes[at..];
     let a = rest[0];
     let b = byte_on(rest, needle.near);
     let c = byte_on(rest, needle.mid);
@@ -224,10 +222,11 @@ fn begins_at(bytes: &[u8], at: usize, needle: Needle) -> bool
 }
 
 impl Sought {
-    // How many of 64 bytes are left from the first on with which a range or the character may begin.
-    fn hit(self, bytes: &[u8], at: usize) -> u8
-        requires { at + 67 ≤ length bytes.now }
-        ensures { OfHit bytes.now self.needle at result }
+    // How many of 64 bytes are left from the first on with which a range or the character may begin. A sequence that begins in the 64 reaches
+    // up to 3 bytes on.
+    fn hit(self, bytes: &[u8]) -> u8
+        requires { length bytes.now ≡ 67 }
+        ensures { OfHit bytes.now self.needle 0 result }
     {
         let needle = self.needle;
         let near = needle.near;
@@ -235,11 +234,10 @@ impl Sought {
         let end = needle.end;
         let mut found: u8 = 0;
         for i in 0..64 {
-            let from = at + i;
-            let a = bytes[from];
-            let b = bytes[from + near];
-            let c = bytes[from + mid];
-            let d = bytes[from + end];
+            let a = bytes[i];
+            let b = bytes[i + near];
+            let c = bytes[i + mid];
+            let d = bytes[i + end];
             if may_begin(needle, a, b, c, d) {
                 found = found.max(64 - i as u8);
             }
@@ -252,21 +250,20 @@ impl Sought {
         ensures { Passes bytes.now self.needle 0 result }
     {
         let blocks = pass_blocks(bytes, self.needle.lead);
-        // A sequence that begins in the 64 bytes reaches up to 3 bytes on.
         let hits = (bytes.len() - blocks.at).saturating_sub(3) / 64;
         let mut count = blocks.count;
         for k in 0..hits {
             let at = blocks.at + 64 * k;
-            let left = self.hit(bytes, at);
+            let left = self.hit(&bytes[at..at + 67]);
             if 0 < left {
                 let n = 64 - left;
-                count += u64::from(leads_of(bytes, at, n));
+                count += u64::from(leads_of(&bytes[at..at + 64], n));
                 return Passed {
                     at: at + usize::from(n),
                     count,
                 };
             }
-            count += u64::from(leads_of(bytes, at, 64));
+            count += u64::from(leads_of(&bytes[at..at + 64], 64));
         }
         Passed {
             at: blocks.at + 64 * hits,
@@ -280,7 +277,7 @@ impl Sought {
     {
         let mut count: u64 = 0;
         for at in 0..bytes.len() {
-            if begins_at(bytes, at, self.needle) {
+            if begins(&bytes[at..], self.needle) {
                 return Passed { at, count };
             }
             count += u64::from(is_lead(bytes[at]));

@@ -5,4 +5,4 @@ use Rattle.mapping.specs.Search.{leads}
 use Rattle.mapping.proofs.search.leads_of.Given as goal
 
 abbrev pub invariant-loop-i : goal.invariant-loop-i
-invariant-loop-i l = l.count ≡ leads l.bytes l.at (min l.i l.n)
+invariant-loop-i l = l.count ≡ leads l.bytes 0 (min l.i l.n)

@@ -7,4 +7,4 @@ use Rattle.mapping.proofs.search.Sought.hit.Given as goal
 
 abbrev pub invariant-loop-i : goal.invariant-loop-i
 invariant-loop-i l = (l.found ≤ 64)
-    × ((j : ℕ) → j < l.i → j + l.found < 64 → may_begin_at l.bytes l.needle (l.at + j) ≡ false)
+    × ((j : ℕ) → j < l.i → j + l.found < 64 → may_begin_at l.bytes l.needle j ≡ false)

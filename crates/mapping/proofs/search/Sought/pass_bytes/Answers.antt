@@ -5,8 +5,8 @@ use Rattle.mapping.proofs.search.Sought.pass_bytes.Goals as goal
 pub loop-at-init : goal.loop-at-init
 loop-at-init c = search passes_start
 
-pub returns-then-begins_at : goal.returns-then-begins_at
-returns-then-begins_at c = search skips_begin
+pub returns-then-begins : goal.returns-then-begins
+returns-then-begins c = search skips_begin
 
 pub overflow_add-count : goal.overflow_add-count
 overflow_add-count c = search byte_fits
