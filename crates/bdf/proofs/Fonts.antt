@@ -22,7 +22,7 @@ use Rattle.bdf.specs.Reader.{start, first_refusal, last_reader, file_lines}
 use Rattle.bdf.specs.Font.{atlas_size, font_of, atlas_of, mapping_of, record_of, font_bytes, read_code, written}
 use Rattle.bdf.specs.Writing.{GoodCell, put_lines}
 use Rattle.bdf.specs.Within.{Within}
-use Rattle.bdf.specs.Walk.{lines_from, Measured, put_lines_if, Room, IsMeasured}
+use Rattle.bdf.specs.Walk.{Measured, put_lines_if, Room, IsMeasured}
 use Rattle.bdf.proofs.Invariant.{within-start, within_last}
 use Rattle.bdf.proofs.Walks.{or_first}
 use Rattle.bdf.proofs.Written.{font-written, font-length, record_right}
@@ -74,12 +74,12 @@ module _ (file : List ℕ) (last : Reader) (m : IsMeasured file last) (size : �
   size-limit : size ≤ 40_000_000
   size-limit = omega (arith, atlas_small last (last_within file last m))
 
-  from_start : last_reader start (lines_from file 0) ≡ last
-  unfolding lines_from file_lines
+  from_start : last_reader start (file_lines file) ≡ last
+  unfolding file_lines
   from_start = sym m.last_is
 
-  pub pieces_good : true ≡ true → first_refusal start (lines_from file 0) ≡ 0
-  unfolding lines_from file_lines
+  pub pieces_good : true ≡ true → first_refusal start (file_lines file) ≡ 0
+  unfolding file_lines
   pieces_good t = m.good
 
   -- the atlas is cleared
@@ -92,14 +92,14 @@ module _ (file : List ℕ) (last : Reader) (m : IsMeasured file last) (size : �
     rest-long : length (drop size pieces) ≡ last.mapping
     rest-long = rw length-drop (omega arith)
 
-    pub pieces_room : Room true (last_reader start (lines_from file 0)) size (length (part ++ post_of 0 (size - 0) pieces))
+    pub pieces_room : Room true (last_reader start (file_lines file)) size (length (part ++ post_of 0 (size - 0) pieces))
     pieces_room =
         let n : length (part ++ post_of 0 (size - 0) pieces) ≡ size + last.mapping = rw (cleared, length-append, length-replicate, rest-long) in
         rw (n, from_start) (record { small = omega (arith, size-limit); whole = λ t. refl; atlas = λ t. e })
 
     -- and the lines put what the font has
-    pub pieces-written : (exit : List ℕ) → exit ≡ put_lines_if true size start (lines_from file 0) (part ++ post_of 0 (size - 0) pieces) → exit ≡ atlas_of (font_of file) ++ mapping_of (font_of file)
-    unfolding lines_from file_lines
+    pub pieces-written : (exit : List ℕ) → exit ≡ put_lines_if true size start (file_lines file) (part ++ post_of 0 (size - 0) pieces) → exit ≡ atlas_of (font_of file) ++ mapping_of (font_of file)
+    unfolding file_lines
     pieces-written exit q =
         let g : size ≡ atlas_size (last_reader start (file_lines file)).cell (last_reader start (file_lines file)).glyphs = e ∙ ap (λ (r : Reader). atlas_size r.cell r.glyphs) m.last_is in
         let h : length (drop size pieces) ≡ (last_reader start (file_lines file)).mapping = rest-long ∙ ap (λ (r : Reader). r.mapping) m.last_is in
@@ -187,14 +187,14 @@ module _ (file : List ℕ) (last : Reader) (m : IsMeasured file last) (size : �
 
 -- ---- the file as it was measured
 
-module _ (file : List ℕ) (x : Result Reader Refusal) (m : Measured x start (lines_from file 0)) where
+module _ (file : List ℕ) (x : Result Reader Refusal) (m : Measured x start (file_lines file)) where
   pub measured_is : (last : Reader) → x ≡ Ok last → IsMeasured file last
-  unfolding lines_from file_lines
+  unfolding file_lines
   measured_is last e = record { good = sym m.code ∙ ap refusal_of e; last_is = m.last last e }
 
   module _ (n : Refusal) (e : x ≡ Err n) where
     refused-code : (k : ℕ) → read_code file k ≡ number n
-    unfolding read_code lines_from file_lines
+    unfolding read_code file_lines
     refused-code k = rw (sym m.code ∙ ap refusal_of e) (or_first (number n) _ (not_zero n))
 
     pub file_refused : (k : ℕ) → number n ≡ read_code file k

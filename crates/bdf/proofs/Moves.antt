@@ -4,8 +4,7 @@ use native.Mathlib.Omega.{arith}
 use mathlib.Core.Path.{◌≡◌, refl, sym, ap, ◌∙◌}
 use mathlib.Core.Bool.{Bool, true, false}
 use mathlib.Core.List.{List, [], ◌∷◌}
-use lib.ListN.{length, drop, get_or, length-drop}
-use lib.Seq.{get_or-drop}
+use lib.ListN.{length, take, drop, get_or, length-drop}
 use lib.Dec.{eqb}
 use borrow.Author.Tests.{eq-eqb, ne_eqb, le-ltb}
 use Rattle.characters.specs.Lines.{line_length, line_from, without_return}
@@ -29,7 +28,7 @@ use Rattle.bdf_lines.proofs.Stands.{not_some, found_is}
 use Rattle.bdf.proofs.Steps.{step_line, expected_is}
 use Rattle.bdf.proofs.Walks.{carries_line}
 use Rattle.bdf.proofs.Strips.{put_passed}
-use Rattle.bdf.proofs.Passes.{Passing, passing_on}
+use Rattle.bdf.proofs.Passes.{Passing, part_rest, passing_on}
 
 -- ---- what such a line does
 
@@ -88,84 +87,88 @@ empty_step : (r : Reader) → r.expected ≡ Glyph → step r [] ≡ Ok (Passed 
 unfolding step words is_comment
 empty_step r e = rw (outside r [] Glyph e refl)
 
-module _ (file : List ℕ) (at : ℕ) (h : at < length file) (f : get_or file at 0 ≡ 0x0A) where
-  empty-length : line_length (drop at file) ≡ 0
-  empty-length = empty_line (drop at file) (rw length-drop (omega arith)) (let z : at + 0 ≡ at = omega arith in get_or-drop at file 0 0 ∙ rw z f)
+module _ (text : List ℕ) (h : length text ≡ 0 → ⊥) (f : get_or text 0 0 ≡ 0x0A) where
+  empty-length : line_length text ≡ 0
+  empty-length = empty_line text (omega arith) f
 
-  empty-at : line_at file at ≡ []
+  empty-at : line_at text 0 ≡ []
   unfolding line_from without_return
   empty-at = rw empty-length
 
-module _ (file : List ℕ) (at : ℕ) (r : Reader) where
-  pub move_none : UsualMove file at r None
+module _ (text : List ℕ) (r : Reader) where
+  pub move_none : UsualMove text r None
   move_none = record { found = λ s to e. absurd (not_some (s, to) e) }
 
   -- a line that does this is such a line
-  moved_to : (s : Reader) (to : ℕ) → LineTo file at to → step r (line_at file at) ≡ Ok (Passed s) → UsualMove file at r (Some (s, to))
+  moved_to : (s : Reader) (to : ℕ) → LineTo text 0 to → step r (line_at text 0) ≡ Ok (Passed s) → UsualMove text r (Some (s, to))
   moved_to s to l q = record { found = λ t end e. let x = found_is s t to end e in rw (← x.0, ← x.1) (l, q) }
 
-  pub empty_on : at < length file → get_or file at 0 ≡ 0x0A → r.expected ≡ Glyph → UsualMove file at r (Some (r, at + 1))
+  pub empty_on : (length text ≡ 0 → ⊥) → get_or text 0 0 ≡ 0x0A → r.expected ≡ Glyph → UsualMove text r (Some (r, 1))
   empty_on h f e =
-      moved_to r (at + 1) (record { ends = omega (arith, empty-length file at h f); inside = omega arith })
-      (ap (step r) (empty-at file at h f) ∙ empty_step r e)
+      moved_to r 1 (record { ends = omega (arith, empty-length text h f); inside = omega arith })
+      (ap (step r) (empty-at text h f) ∙ empty_step r e)
 
   module _ (x : Option ℕ) (to : ℕ) (o : x ≡ Some to) where
     -- a line that passes a test is such a line
-    on : (test : List (List ℕ) → Bool) (s : Reader) → UsualLine file at test x → (test (words (line_at file at)) ≡ true → step r (line_at file at) ≡ Ok (Passed s)) → UsualMove file at r (Some (s, to))
+    on : (test : List (List ℕ) → Bool) (s : Reader) → UsualLine text 0 test x → (test (words (line_at text 0)) ≡ true → step r (line_at text 0) ≡ Ok (Passed s)) → UsualMove text r (Some (s, to))
     on test s u q = let l = u.found to o in moved_to s to l.0 (q l.1)
 
     module _ (s : Reader) where
-      pub start_on : UsualLine file at (is_named word.start_char) x → r.expected ≡ Glyph → (r.left ≡ 0 → ⊥) → s ≡ leaving Encoding (r.left - 1) r → UsualMove file at r (Some (s, to))
-      start_on u e z q = on (is_named word.start_char) s u (start-step r s (line_at file at) e z q)
+      pub start_on : UsualLine text 0 (is_named word.start_char) x → r.expected ≡ Glyph → (r.left ≡ 0 → ⊥) → s ≡ leaving Encoding (r.left - 1) r → UsualMove text r (Some (s, to))
+      start_on u e z q = on (is_named word.start_char) s u (start-step r s (line_at text 0) e z q)
 
-      pub scalable_on : UsualLine file at (has_numbers word.swidth 2) x → r.expected ≡ Swidth → s ≡ expecting Dwidth r → UsualMove file at r (Some (s, to))
-      scalable_on u e q = on (has_numbers word.swidth 2) s u (scalable-step r s (line_at file at) e q)
+      pub scalable_on : UsualLine text 0 (has_numbers word.swidth 2) x → r.expected ≡ Swidth → s ≡ expecting Dwidth r → UsualMove text r (Some (s, to))
+      scalable_on u e q = on (has_numbers word.swidth 2) s u (scalable-step r s (line_at text 0) e q)
 
-      pub device_on : UsualLine file at (has_numbers word.dwidth 2) x → r.expected ≡ Dwidth → s ≡ expecting Bbx r → UsualMove file at r (Some (s, to))
-      device_on u e q = on (has_numbers word.dwidth 2) s u (device-step r s (line_at file at) e q)
+      pub device_on : UsualLine text 0 (has_numbers word.dwidth 2) x → r.expected ≡ Dwidth → s ≡ expecting Bbx r → UsualMove text r (Some (s, to))
+      device_on u e q = on (has_numbers word.dwidth 2) s u (device-step r s (line_at text 0) e q)
 
-      pub bitmap_on : UsualLine file at (is_alone word.bitmap) x → r.expected ≡ Attributes → s ≡ expecting Rows r → UsualMove file at r (Some (s, to))
-      bitmap_on u e q = on (is_alone word.bitmap) s u (bitmap-step r s (line_at file at) e q)
+      pub bitmap_on : UsualLine text 0 (is_alone word.bitmap) x → r.expected ≡ Attributes → s ≡ expecting Rows r → UsualMove text r (Some (s, to))
+      bitmap_on u e q = on (is_alone word.bitmap) s u (bitmap-step r s (line_at text 0) e q)
 
-      pub end_on : UsualLine file at (is_alone word.end_char) x → r.expected ≡ Rows → r.bbx.height ≤ r.read → s ≡ expecting Glyph r → UsualMove file at r (Some (s, to))
-      end_on u e h q = on (is_alone word.end_char) s u (end_step r s (line_at file at) e h q)
+      pub end_on : UsualLine text 0 (is_alone word.end_char) x → r.expected ≡ Rows → r.bbx.height ≤ r.read → s ≡ expecting Glyph r → UsualMove text r (Some (s, to))
+      end_on u e h q = on (is_alone word.end_char) s u (end_step r s (line_at text 0) e h q)
 
 -- ---- the answers
 
-module _ (file : List ℕ) (at : ℕ) (r : Reader) where
-  pub answer_none : UsualAnswer file at r None
+module _ (text : List ℕ) (r : Reader) where
+  pub answer_none : UsualAnswer text r None
   answer_none = record { found = λ a to e. absurd (not_some (a, to) e) }
 
   module _ (to : ℕ) (a : Result Answer Refusal) where
-    answered : LineTo file at to → a ≡ step r (line_at file at) → UsualAnswer file at r (Some (a, to))
+    answered : LineTo text 0 to → a ≡ step r (line_at text 0) → UsualAnswer text r (Some (a, to))
     answered l q = record { found = λ b end p. let x = found_is a b to end p in rw (← x.0, ← x.1) (l, q) }
 
-    pub encoding_answered : (x : Option (Number × ℕ)) (n : Number) → x ≡ Some (n, to) → UsualEncoding file at x → r.expected ≡ Encoding → a ≡ encoding_line (Some n) r → UsualAnswer file at r (Some (a, to))
-    encoding_answered x n e u f q = let l = u.found n to e in answered l.0 (encoding-step r (line_at file at) a f n l.1 q)
+    pub encoding_answered : (x : Option (Number × ℕ)) (n : Number) → x ≡ Some (n, to) → UsualEncoding text 0 x → r.expected ≡ Encoding → a ≡ encoding_line (Some n) r → UsualAnswer text r (Some (a, to))
+    encoding_answered x n e u f q = let l = u.found n to e in answered l.0 (encoding-step r (line_at text 0) a f n l.1 q)
 
-    pub bbx_answered : (x : Option (Four × ℕ)) (f : Four) → x ≡ Some (f, to) → UsualBbx file at x → r.expected ≡ Bbx → a ≡ bbx_line (Some f) r → UsualAnswer file at r (Some (a, to))
-    bbx_answered x f e u i q = let l = u.found f.width f.height f.x f.y to e in answered l.0 (bbx-step r (line_at file at) a i f l.1 q)
+    pub bbx_answered : (x : Option (Four × ℕ)) (f : Four) → x ≡ Some (f, to) → UsualBbx text 0 x → r.expected ≡ Bbx → a ≡ bbx_line (Some f) r → UsualAnswer text r (Some (a, to))
+    bbx_answered x f e u i q = let l = u.found f.width f.height f.x f.y to e in answered l.0 (bbx-step r (line_at text 0) a i f l.1 q)
 
-module _ (file : List ℕ) (at : ℕ) (r : Reader) (x : Option (Result Answer Refusal × ℕ)) (u : UsualAnswer file at r x) (a : Result Answer Refusal) (to : ℕ) (e : x ≡ Some (a, to)) where
-  pub answer_is : a ≡ step r (line_at file at)
+module _ (text : List ℕ) (r : Reader) (x : Option (Result Answer Refusal × ℕ)) (u : UsualAnswer text r x) (a : Result Answer Refusal) (to : ℕ) (e : x ≡ Some (a, to)) where
+  pub answer_is : a ≡ step r (line_at text 0)
   answer_is = (u.found a to e).1
 
   pub answer_fed : 1 ≤ to
   answer_fed = omega (arith, (u.found a to e).0.ends)
 
-  pub answer_end : to - 1 ≡ at + line_length (drop at file)
+  pub answer_end : to - 1 ≡ line_length text
   answer_end = omega (arith, (u.found a to e).0.ends)
 
 -- ---- a move in the pass over a file, after bitmap lines
 
-module _ (file : List ℕ) (w : Bool) (size : ℕ) (r : Reader) (at : ℕ) (old : List ℕ) (s : Reader) (from : ℕ) (mid : List ℕ) (d : Carries file w size r at old s from mid)
-    (x : Option (Reader × ℕ)) (u : UsualMove file from s x) (t : Reader) (to : ℕ) (e : x ≡ Some (t, to)) where
-  pub move_less : length file - to < length file - at
-  move_less = let l = (u.found t to e).0 in omega (arith, d.onward, l.ends, l.inside)
+module _ (text : List ℕ) (s : Reader) (x : Option (Reader × ℕ)) (u : UsualMove text s x) (t : Reader) (to : ℕ) (e : x ≡ Some (t, to)) where
+  pub move_inside : to ≤ length text
+  move_inside = (u.found t to e).0.inside
 
-  pub move_on : (out : List ℕ) → Passing file w size out r at old → Passing file w size out t to mid
-  move_on out c =
-      let l = u.found t to e in
-      passing_on file w size out r at old c t to mid
-      (rw l.0.ends (carries_line file w size r at old s from mid d (Ok (Passed t)) (from + line_length (drop from file)) (sym l.1) refl (omega (arith, l.0.ends, l.0.inside)) refl t mid refl
-      (put_passed size s t (Passed t) mid [] w refl) refl))
+  module _ (w : Bool) (size : ℕ) (r : Reader) (rest old mid : List ℕ) (d : Carries rest w size r old s text mid) where
+    pub move_less : length (take (length text - to) (drop to text)) < length rest
+    move_less = let l = (u.found t to e).0 in rw (part_rest text to) (omega (arith, length-drop to text, d.onward, l.ends, l.inside))
+
+    pub move_on : (file out : List ℕ) → Passing file w size out r rest old → Passing file w size out t (take (length text - to) (drop to text)) mid
+    move_on file out c =
+        let l = u.found t to e in
+        let q : to ≡ line_length text + 1 = omega (arith, l.0.ends) in
+        rw (part_rest text to) (passing_on file w size out r rest old c t (drop to text) mid
+        (rw q (carries_line rest w size r old s text mid d (Ok (Passed t)) (line_length text) (sym l.1) refl (omega (arith, l.0.ends, l.0.inside)) refl t mid refl
+        (put_passed size s t (Passed t) mid [] w refl) refl)))

@@ -8,7 +8,7 @@ use borrow.Rule.Slice.PartMut.{put_mid}
 use Rattle.geometry.specs.Layer.{map_indexed}
 use mathlib.Core.List.{List, ◌∷◌}
 use lib.ListN.{length, take, drop, length-drop}
-use lib.Seq.{length-take-le}
+use lib.Seq.{length-take-le, take_all}
 use lib.Dec.{ltb, leb, eqb}
 use mir.Syntax.{w32, w64}
 use mir.Val.{Fits}
@@ -25,11 +25,11 @@ use Rattle.bdf.specs.declared.reader.Answer.{Answer}
 use Rattle.bdf.specs.declared.reader.Reader.{Reader}
 use Rattle.bdf.specs.declared.file.Strip.{Strip}
 use Rattle.bdf.specs.declared.reader.Expected.{Expected}
-use Rattle.bdf.specs.Reader.{spelling, order, in_bitmap, step, after, last_reader, with_encoding, with_row}
+use Rattle.bdf.specs.Reader.{file_lines, spelling, order, in_bitmap, step, after, last_reader, with_encoding, with_row}
 use Rattle.bdf.specs.Font.{ink_left, ink_top, stride, atlas_size}
 use Rattle.bdf.specs.Writing.{with_bits, BitsFit, put_row, put}
 use Rattle.bdf.specs.Within.{Within}
-use Rattle.bdf.specs.Walk.{lines_from, put_if, Room, Carries, rows_read, strip_of, put_strip, put_strip_if, StripFits, put_spelling_if, SpellingFits, AnswerFits}
+use Rattle.bdf.specs.Walk.{put_if, Room, Carries, rows_read, strip_of, put_strip, put_strip_if, StripFits, put_spelling_if, SpellingFits, AnswerFits}
 use Rattle.bdf.proofs.Steps.{spelling_short, rows_expected}
 use Rattle.bdf.proofs.Invariant.{within_step}
 use Rattle.bdf.proofs.Gathered.{gathered, glyphs-counted, mapping_counted}
@@ -270,7 +270,7 @@ module _ (w : Bool) (from to v : ℕ) (out : List ℕ) where
 
 -- ---- bitmap lines one after another
 
-module _ (file : List ℕ) (w : Bool) (size : ℕ) (r : Reader) (from : ℕ) (out : List ℕ) where
+module _ (file : List ℕ) (w : Bool) (size : ℕ) (r : Reader) (out : List ℕ) where
   module _ (b : in_bitmap r ≡ true) where
     expected-rows : r.expected ≡ Rows
     unfolding in_bitmap
@@ -283,27 +283,30 @@ module _ (file : List ℕ) (w : Bool) (size : ℕ) (r : Reader) (from : ℕ) (ou
     pub rows_same : r ≡ rows_read r.read r
     rows_same = ap (λ (x : Expected). record { expected = x; left = r.left; cell = r.cell; bbx = r.bbx; glyphs = r.glyphs; mapping = r.mapping; least = r.least; read = r.read }) expected-rows
 
-  pub rows_start : Within r → from ≤ length file → Carries file w size r from out r from out
-  rows_start i h = carries_none file w size r from out i h
+  pub rows_start : Within r → Carries file w size r out r file out
+  rows_start i = carries_none file w size r out i
 
-  module _ (i at : ℕ) (mid : List ℕ) (p : Reader) (same : p ≡ rows_read i r) (c : Carries file w size r from out p at mid) (less : i < r.bbx.height) (x : Option (ℕ × ℕ))
-      (f : RowFound file at r.bbx.width x) (bits end : ℕ) (e : x ≡ Some (bits, end)) where
+  module _ (i : ℕ) (rest mid : List ℕ) (p : Reader) (same : p ≡ rows_read i r) (c : Carries file w size r out p rest mid) (less : i < r.bbx.height) (x : Option (ℕ × ℕ))
+      (f : RowFound rest 0 r.bbx.width x) (bits end : ℕ) (e : x ≡ Some (bits, end)) where
     abbrev here : Reader
     here = rows_read i r
 
-    carried : Carries file w size r from out here at mid
+    carried : Carries file w size r out here rest mid
     carried = rw same at c
 
     pub row_end_fits : Fits w64 (length file) → Fits w64 (end + 1)
-    row_end_fits l = omega (arith, (f.found bits end e).more)
+    row_end_fits l = omega (arith, (f.found bits end e).more, carried.onward)
 
-    pub row_strip_fits : Room w (last_reader r (lines_from file from)) size (length out) → (s : Strip) → s ≡ strip_of r → StripFits w s i bits (length mid)
+    pub row_inside : end + 1 ≤ length rest
+    row_inside = omega (arith, (f.found bits end e).more)
+
+    pub row_strip_fits : Room w (last_reader r (file_lines file)) size (length out) → (s : Strip) → s ≡ strip_of r → StripFits w s i bits (length mid)
     unfolding strip_of
     row_strip_fits m s q =
-        let g = gathered here (lines_from file at) carried.within in
-        let k = glyphs-counted here (lines_from file at) in
-        rw q (strip_fits w here (last_reader here (lines_from file at)) size (length mid) carried.within (room_kept file w size r from out here at mid carried m) refl (g.cell (omega arith)) (omega arith)
-        i bits less (bits_small r.bbx.width bits (line_at file at) (f.found bits end e).bitmap))
+        let g = gathered here (file_lines rest) carried.within in
+        let k = glyphs-counted here (file_lines rest) in
+        rw q (strip_fits w here (last_reader here (file_lines rest)) size (length mid) carried.within (room_kept file w size r out here rest mid carried m) refl (g.cell (omega arith)) (omega arith)
+        i bits less (bits_small r.bbx.width bits (line_at rest 0) (f.found bits end e).bitmap))
 
     -- over one
     abbrev next : Reader
@@ -312,10 +315,10 @@ module _ (file : List ℕ) (w : Bool) (size : ℕ) (r : Reader) (from : ℕ) (ou
     pub rows_next : next ≡ rows_read (i + 1) r
     rows_next = rw same
 
-    pub rows_step : (s : Strip) (exit : List ℕ) → s ≡ strip_of r → exit ≡ put_strip_if w s i bits mid → length exit ≡ length mid → Carries file w size r from out next (end + 1) exit
+    pub rows_step : (s : Strip) (exit : List ℕ) → s ≡ strip_of r → exit ≡ put_strip_if w s i bits mid → length exit ≡ length mid → Carries file w size r out next (take (length rest - (end + 1)) (drop (end + 1) rest)) exit
     unfolding in_bitmap strip_of
     rows_step s exit q t m =
         let b : in_bitmap here ≡ true = lt-ltb i r.bbx.height less in
-        let d : Ok (Drawn (with_row here) bits) ≡ step here (line_at file at) = row_step here (line_at file at) bits b (f.found bits end e).bitmap in
-        rw rows_next (carries_line file w size r from out here at mid carried (Ok (Drawn (with_row here) bits)) end d (f.found bits end e).ends (f.found bits end e).more refl (with_row here) exit refl
+        let d : Ok (Drawn (with_row here) bits) ≡ step here (line_at rest 0) = row_step here (line_at rest 0) bits b (f.found bits end e).bitmap in
+        rw (rows_next, take_all (length rest - (end + 1)) (drop (end + 1) rest) (omega (arith, length-drop (end + 1) rest))) (carries_line file w size r out here rest mid carried (Ok (Drawn (with_row here) bits)) end d (omega (arith, (f.found bits end e).ends)) (f.found bits end e).more refl (with_row here) exit refl
         (put_drawn size here (with_row here) (Drawn (with_row here) bits) mid exit w bits s refl q t) m)

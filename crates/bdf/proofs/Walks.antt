@@ -5,7 +5,7 @@ use native.Mathlib.Decide.{dec_lt}
 use mathlib.Core.Path.{◌≡◌, refl, sym, ap, ◌∙◌}
 use mathlib.Core.Bool.{Bool, true, false, true≢false, and-eq-true_iff}
 use mathlib.Core.List.{List, [], ◌∷◌, map}
-use lib.ListN.{length, take, drop}
+use lib.ListN.{length, take, drop, length-drop}
 use lib.Dec.{ltb, eqb}
 use borrow.Author.Tests.{ne_eqb, eqb-true, ltb-true}
 use Rattle.std.specs.Result.{is_ok}
@@ -18,13 +18,14 @@ use Rattle.bdf_lines.specs.Forms.{line_at}
 use Rattle.bdf.specs.declared.reader.Expected.TheVariants.{Rows, Nothing}
 use Rattle.bdf.specs.declared.reader.Answer.{Answer}
 use Rattle.bdf.specs.declared.reader.Reader.{Reader}
-use Rattle.bdf.specs.Reader.{order, in_bitmap, with_row, row_line, step, after, first_refusal, last_reader}
+use Rattle.bdf.specs.Reader.{file_lines, order, in_bitmap, with_row, row_line, step, after, first_refusal, last_reader}
 use Rattle.bdf_lines.specs.Words.{words, row_of}
 use Rattle.bdf.specs.Writing.{put_lines}
 use Rattle.bdf.specs.Within.{Within}
-use Rattle.bdf.specs.Walk.{lines_from, Measured, put_if, put_lines_if, Room, Carries, LastLine}
+use Rattle.bdf.specs.Walk.{Measured, put_if, put_lines_if, Room, Carries, LastLine}
 use Rattle.characters.specs.Lines.{line_length, without_return}
-use Rattle.characters.proofs.Feeds.{line_part, lines_more, lines_last}
+use lib.Seq.{length-take-le}
+use Rattle.characters.proofs.Feeds.{end_reach, line_part, lines_more, lines_last}
 use Rattle.characters.specs.Refusal.{or_else}
 use Rattle.refusals.proofs.Numbers.{not_zero}
 use Rattle.bdf.proofs.Steps.{order_tells, rows_expected, step-bitmap, expected_is, bitmap_row}
@@ -54,14 +55,14 @@ module _ {A : Type 0} where
 
 -- ---- a line, and the rest
 
-module _ (file : List ℕ) (at end : ℕ) (inside : at ≤ length file) (e : end ≡ at + line_length (drop at file)) where
-  pub lines_from_more : end < length file → lines_from file at ≡ line_at file at ∷ lines_from file (end + 1)
-  unfolding lines_from
-  lines_from_more h = ap (map without_return) (lines_more file at end inside e h)
+module _ (text : List ℕ) (end : ℕ) (e : end ≡ line_length text) where
+  pub lines_more_here : end < length text → file_lines text ≡ line_at text 0 ∷ file_lines (drop (end + 1) text)
+  unfolding file_lines
+  lines_more_here h = ap (map without_return) (lines_more text 0 end (omega arith) (omega arith) h)
 
-  pub lines_from_last : length file ≤ end → lines_from file at ≡ line_at file at ∷ []
-  unfolding lines_from
-  lines_from_last h = ap (map without_return) (lines_last file at end inside e h)
+  pub lines_last_here : length text ≤ end → file_lines text ≡ line_at text 0 ∷ []
+  unfolding file_lines
+  lines_last_here h = ap (map without_return) (lines_last text 0 end (omega arith) (omega arith) h)
 
 pub or_first : (n m : ℕ) → (n ≡ 0 → ⊥) → or_else n m ≡ n
 or_first zero m h = absurd (h refl)
@@ -93,81 +94,79 @@ put_none : (size : ℕ) (w : Bool) (t : Reader) (o : List ℕ) → o ≡ put_lin
 put_none size true t o = put_lines_none size t o
 put_none size false t o = refl
 
--- ---- from one position to another
+-- ---- from a text to the rest of it
 
-module _ (file : List ℕ) (w : Bool) (size : ℕ) (r : Reader) (at : ℕ) (out : List ℕ) where
-  pub carries_none : Within r → at ≤ length file → Carries file w size r at out r at out
-  carries_none i h = record { within = i; onward = omega arith; inside = h; same_refusal = refl; same_last = refl; same-put = refl; same_length = refl }
+module _ (file : List ℕ) (w : Bool) (size : ℕ) (r : Reader) (out : List ℕ) where
+  pub carries_none : Within r → Carries file w size r out r file out
+  carries_none i = record { within = i; onward = omega arith; same_refusal = refl; same_last = refl; same-put = refl; same_length = refl }
 
-  module _ (s : Reader) (from : ℕ) (mid : List ℕ) (c : Carries file w size r at out s from mid) where
-    pub carries_on : (t : Reader) (to : ℕ) (exit : List ℕ) → Carries file w size s from mid t to exit → Carries file w size r at out t to exit
-    carries_on t to exit d = record {
+  module _ (s : Reader) (text mid : List ℕ) (c : Carries file w size r out s text mid) where
+    pub carries_on : (t : Reader) (rest exit : List ℕ) → Carries text w size s mid t rest exit → Carries file w size r out t rest exit
+    carries_on t rest exit d = record {
       within = d.within;
       onward = omega (arith, c.onward, d.onward);
-      inside = d.inside;
       same_refusal = d.same_refusal ∙ c.same_refusal;
       same_last = d.same_last ∙ c.same_last;
       same-put = d.same-put ∙ c.same-put;
       same_length = d.same_length ∙ c.same_length;
     }
 
-    module _ (a : Result Answer Refusal) (end : ℕ) (e : a ≡ step s (line_at file from)) (f : end ≡ from + line_length (drop from file)) where
+    module _ (a : Result Answer Refusal) (end : ℕ) (e : a ≡ step s (line_at text 0)) (f : end ≡ line_length text) where
       -- a line that ends in a feed
-      module _ (h : end < length file) (z : refusal_of a ≡ 0) where
-        more : lines_from file from ≡ line_at file from ∷ lines_from file (end + 1)
-        more = lines_from_more file from end c.inside f h
+      module _ (h : end < length text) (z : refusal_of a ≡ 0) where
+        more : file_lines text ≡ line_at text 0 ∷ file_lines (drop (end + 1) text)
+        more = lines_more_here text end f h
 
-        pub carries_line : (t : Reader) (exit : List ℕ) → t ≡ after s a → exit ≡ put_if w size s a mid → length exit ≡ length mid → Carries file w size r at out t (end + 1) exit
-        carries_line t exit p q m = carries_on t (end + 1) exit (record {
-          within = rw (p, e) (within_step s (line_at file from) c.within);
-          onward = omega arith;
-          inside = omega arith;
-          same_refusal = rw (p, more) (sym (refusal-more s (line_at file from) _ a e z));
-          same_last = rw (p, more) (sym (last_more s (line_at file from) _ a e));
-          same-put = rw (p, q, more) (sym (put-more s (line_at file from) _ a e w size mid));
+        pub carries_line : (t : Reader) (exit : List ℕ) → t ≡ after s a → exit ≡ put_if w size s a mid → length exit ≡ length mid → Carries file w size r out t (drop (end + 1) text) exit
+        carries_line t exit p q m = carries_on t (drop (end + 1) text) exit (record {
+          within = rw (p, e) (within_step s (line_at text 0) c.within);
+          onward = omega (arith, length-drop (end + 1) text);
+          same_refusal = rw (p, more) (sym (refusal-more s (line_at text 0) _ a e z));
+          same_last = rw (p, more) (sym (last_more s (line_at text 0) _ a e));
+          same-put = rw (p, q, more) (sym (put-more s (line_at text 0) _ a e w size mid));
           same_length = m;
         })
 
       -- the last line
-      module _ (h : length file ≤ end) where
-        last : lines_from file from ≡ line_at file from ∷ []
-        last = lines_from_last file from end c.inside f h
+      module _ (h : length text ≤ end) where
+        last : file_lines text ≡ line_at text 0 ∷ []
+        last = lines_last_here text end f h
 
-        put_end : (exit : List ℕ) → exit ≡ put_if w size s a mid → exit ≡ put_lines_if w size r (lines_from file at) out
-        put_end exit q = q ∙ put_none size w (after s a) (put_if w size s a mid) ∙ sym (put-more s (line_at file from) [] a e w size mid) ∙ ap (λ (ls : List (List ℕ)). put_lines_if w size s ls mid) (sym last) ∙ c.same-put
+        put_end : (exit : List ℕ) → exit ≡ put_if w size s a mid → exit ≡ put_lines_if w size r (file_lines file) out
+        put_end exit q = q ∙ put_none size w (after s a) (put_if w size s a mid) ∙ sym (put-more s (line_at text 0) [] a e w size mid) ∙ ap (λ (ls : List (List ℕ)). put_lines_if w size s ls mid) (sym last) ∙ c.same-put
 
-        pub last_line : refusal_of a ≡ 0 → (t : Reader) (exit : List ℕ) → t ≡ after s a → exit ≡ put_if w size s a mid → LastLine file w size r at out t exit
+        pub last_line : refusal_of a ≡ 0 → (t : Reader) (exit : List ℕ) → t ≡ after s a → exit ≡ put_if w size s a mid → LastLine file w size r out t exit
         unfolding last_reader
         last_line z t exit p q = record {
-          same_refusal = rw p (sym (refusal-more s (line_at file from) [] a e z)) ∙ ap (first_refusal s) (sym last) ∙ c.same_refusal;
-          same_last = p ∙ sym (last_more s (line_at file from) [] a e) ∙ ap (last_reader s) (sym last) ∙ c.same_last;
+          same_refusal = rw p (sym (refusal-more s (line_at text 0) [] a e z)) ∙ ap (first_refusal s) (sym last) ∙ c.same_refusal;
+          same_last = p ∙ sym (last_more s (line_at text 0) [] a e) ∙ ap (last_reader s) (sym last) ∙ c.same_last;
           put_whole = put_end exit q;
         }
 
       -- a line that is refused
       module _ (n : Refusal) (q : a ≡ Err n) where
-        refused-there : first_refusal s (lines_from file from) ≡ number n
-        refused-there = go (dec_lt end (length file))
+        refused-there : first_refusal s (file_lines text) ≡ number n
+        refused-there = go (dec_lt end (length text))
           where
-            go : Dec (end < length file) → first_refusal s (lines_from file from) ≡ number n
-            go (yes h) = rw (lines_from_more file from end c.inside f h) (refusal-here s (line_at file from) _ a e n q)
-            go (no h) = rw (lines_from_last file from end c.inside f (omega arith)) (refusal-here s (line_at file from) _ a e n q)
+            go : Dec (end < length text) → first_refusal s (file_lines text) ≡ number n
+            go (yes h) = rw (lines_more_here text end f h) (refusal-here s (line_at text 0) _ a e n q)
+            go (no h) = rw (lines_last_here text end f (omega arith)) (refusal-here s (line_at text 0) _ a e n q)
 
-        pub line-refusal : number n ≡ first_refusal r (lines_from file at)
+        pub line-refusal : number n ≡ first_refusal r (file_lines file)
         line-refusal = sym refused-there ∙ c.same_refusal
 
     -- a file that is written has no refused line
-    pub put_kept : (w ≡ true → first_refusal r (lines_from file at) ≡ 0) → (n : Refusal) → number n ≡ first_refusal r (lines_from file at) → mid ≡ put_lines_if w size r (lines_from file at) out
+    pub put_kept : (w ≡ true → first_refusal r (file_lines file) ≡ 0) → (n : Refusal) → number n ≡ first_refusal r (file_lines file) → mid ≡ put_lines_if w size r (file_lines file) out
     put_kept good n q = go w refl c.same-put
       where
-        go : (v : Bool) → w ≡ v → put_lines_if v size s (lines_from file from) mid ≡ put_lines_if v size r (lines_from file at) out → mid ≡ put_lines_if v size r (lines_from file at) out
+        go : (v : Bool) → w ≡ v → put_lines_if v size s (file_lines text) mid ≡ put_lines_if v size r (file_lines file) out → mid ≡ put_lines_if v size r (file_lines file) out
         go true o p = absurd (not_zero n (q ∙ good o))
         go false o p = p
 
   -- room for what the rest says
-  pub room_kept : (s : Reader) (from : ℕ) (mid : List ℕ) → Carries file w size r at out s from mid → Room w (last_reader r (lines_from file at)) size (length out)
-      → Room w (last_reader s (lines_from file from)) size (length mid)
-  room_kept s from mid c m = rw (c.same_last, c.same_length) m
+  pub room_kept : (s : Reader) (text mid : List ℕ) → Carries file w size r out s text mid → Room w (last_reader r (file_lines file)) size (length out)
+      → Room w (last_reader s (file_lines text)) size (length mid)
+  room_kept s text mid c m = rw (c.same_last, c.same_length) m
 
 -- ---- the last reader, and the line at a position
 
@@ -183,8 +182,14 @@ module _ (r : Reader) where
   unfolding first_refusal last_reader
   done h = record { code = rw h; last = λ s e. sym (ok_is r s e) }
 
-pub line_is : (file x : List ℕ) (at end : ℕ) (r : Reader) (a : Result Answer Refusal) → end ≡ at + line_length (drop at file) → x ≡ without_return (take (end - at) (drop at file)) → a ≡ step r x → a ≡ step r (line_at file at)
-line_is file x at end r a e q f = f ∙ ap (step r) (q ∙ ap without_return (line_part file at end e))
+pub line_is : (text x : List ℕ) (end : ℕ) (r : Reader) (a : Result Answer Refusal) → end ≡ 0 + line_length text → x ≡ without_return (take end text) → a ≡ step r x → a ≡ step r (line_at text 0)
+line_is text x end r a e q f = let z : end - 0 ≡ end = omega arith in f ∙ ap (step r) (q ∙ ap without_return (rw z at (line_part text 0 end e)))
+
+pub line_within : (text : List ℕ) (end : ℕ) → end ≡ 0 + line_length text → end ≡ length (take end text)
+line_within text end e = sym (length-take-le end text (end_reach text 0 end (omega arith) e))
+
+pub line_ends : (text : List ℕ) (end : ℕ) → end ≡ 0 + line_length text → end ≡ line_length text
+line_ends text end e = omega arith
 
 -- ---- bitmap lines one after another
 

@@ -1,9 +1,8 @@
--- A walk over the lines of a file, as its functions make it: what the whole file comes to, told from a position in it. Assumes nothing.
+-- A walk over the lines of a file, as its functions make it: what the whole file comes to, told from the rest of it. Assumes nothing.
 -- Serves contracts: nothing here has to be believed.
-use Rattle.std.specs.Prelude.{ℕ, ◌+◌, ◌-◌, ◌*◌, ◌/◌, ◌%◌, ◌^◌, ◌≤◌, ◌<◌, ◌≡◌, Bool, true, false, List, [], Result, Ok, Err, map, length, take, drop}
+use Rattle.std.specs.Prelude.{ℕ, ◌+◌, ◌-◌, ◌*◌, ◌/◌, ◌%◌, ◌^◌, ◌≤◌, ◌<◌, ◌≡◌, Bool, true, false, List, [], Result, Ok, Err, length, take, drop}
 use borrow.Rule.Slice.PartMut.{put_mid}
 use Rattle.geometry.specs.Layer.{map_indexed}
-use Rattle.characters.specs.Lines.{lines, without_return}
 use Rattle.bdf.specs.declared.reader.Expected.TheVariants.{Rows}
 use Rattle.bdf.specs.declared.reader.Reader.{Reader}
 use Rattle.bdf.specs.declared.reader.Answer.{Answer}
@@ -15,10 +14,6 @@ use Rattle.bdf.specs.Reader.{spelling, start, first_refusal, last_reader, file_l
 use Rattle.bdf.specs.Font.{ink_left, ink_top, stride, atlas_size, refusal}
 use Rattle.bdf.specs.Writing.{with_bits, put, put_lines}
 use Rattle.bdf.specs.Within.{Within}
-
--- the lines from a position on
-unfoldable pub lines_from : List ℕ → ℕ → List (List ℕ)
-lines_from file at = map without_return (lines (drop at file))
 
 -- what lines come to, from a reader on: their first refusal, or the reader after the last
 pub record Measured (x : Result Reader Refusal) (r : Reader) (ls : List (List ℕ)) : Type 0 where
@@ -40,28 +35,26 @@ pub record Room (writing : Bool) (last : Reader) (size n : ℕ) : Type 0 where
   pub whole : writing ≡ true → n ≡ size + last.mapping
   pub atlas : writing ≡ true → size ≡ atlas_size last.cell last.glyphs
 
--- from one position to another, both between two lines, what the rest comes to and what it puts stays
-pub record Carries (file : List ℕ) (writing : Bool) (size : ℕ) (r : Reader) (at : ℕ) (out : List ℕ) (s : Reader) (to : ℕ) (exit : List ℕ) : Type 0 where
+-- from a text to the rest of it, both from a line on, what it comes to and what it puts stays
+pub record Carries (text : List ℕ) (writing : Bool) (size : ℕ) (r : Reader) (out : List ℕ) (s : Reader) (rest exit : List ℕ) : Type 0 where
   pub within : Within s
-  pub onward : at ≤ to
-  pub inside : to ≤ length file
-  pub same_refusal : first_refusal s (lines_from file to) ≡ first_refusal r (lines_from file at)
-  pub same_last : last_reader s (lines_from file to) ≡ last_reader r (lines_from file at)
-  pub same-put : put_lines_if writing size s (lines_from file to) exit ≡ put_lines_if writing size r (lines_from file at) out
+  pub onward : length rest ≤ length text
+  pub same_refusal : first_refusal s (file_lines rest) ≡ first_refusal r (file_lines text)
+  pub same_last : last_reader s (file_lines rest) ≡ last_reader r (file_lines text)
+  pub same-put : put_lines_if writing size s (file_lines rest) exit ≡ put_lines_if writing size r (file_lines text) out
   pub same_length : length exit ≡ length out
 
 -- over the last line, to the reader s: what it comes to and what it puts
-pub record LastLine (file : List ℕ) (writing : Bool) (size : ℕ) (r : Reader) (at : ℕ) (out : List ℕ) (s : Reader) (exit : List ℕ) : Type 0 where
-  pub same_refusal : first_refusal s [] ≡ first_refusal r (lines_from file at)
-  pub same_last : s ≡ last_reader r (lines_from file at)
-  pub put_whole : exit ≡ put_lines_if writing size r (lines_from file at) out
+pub record LastLine (text : List ℕ) (writing : Bool) (size : ℕ) (r : Reader) (out : List ℕ) (s : Reader) (exit : List ℕ) : Type 0 where
+  pub same_refusal : first_refusal s [] ≡ first_refusal r (file_lines text)
+  pub same_last : s ≡ last_reader r (file_lines text)
+  pub put_whole : exit ≡ put_lines_if writing size r (file_lines text) out
 
 -- over a line: it is refused; or another follows; or it is the last
-pub record LineOver (file : List ℕ) (writing : Bool) (size : ℕ) (r : Reader) (at : ℕ) (out : List ℕ) (x : Result (Reader × ℕ) Refusal) (exit : List ℕ) : Type 0 where
-  pub refused : (n : Refusal) → x ≡ Err n → (number n ≡ first_refusal r (lines_from file at)) × (exit ≡ out)
-  pub onward : (s : Reader) (end : ℕ) → x ≡ Ok (s, end) → at ≤ end
-  pub more : (s : Reader) (end : ℕ) → x ≡ Ok (s, end) → end < length file → Carries file writing size r at out s (end + 1) exit
-  pub last : (s : Reader) (end : ℕ) → x ≡ Ok (s, end) → length file ≤ end → LastLine file writing size r at out s exit
+pub record LineOver (text : List ℕ) (writing : Bool) (size : ℕ) (r : Reader) (out : List ℕ) (x : Result (Reader × ℕ) Refusal) (exit : List ℕ) : Type 0 where
+  pub refused : (n : Refusal) → x ≡ Err n → (number n ≡ first_refusal r (file_lines text)) × (exit ≡ out)
+  pub more : (s : Reader) (end : ℕ) → x ≡ Ok (s, end) → end < length text → Carries text writing size r out s (drop (end + 1) text) exit
+  pub last : (s : Reader) (end : ℕ) → x ≡ Ok (s, end) → length text ≤ end → LastLine text writing size r out s exit
 
 -- ---- bitmap lines
 

@@ -1,10 +1,10 @@
 // A font file, line by line: once tested and measured, once written.
-ghost use Rattle.std.specs.Prelude.{◌≡◌, ◌+◌, ◌≤◌, length, drop, [], true, Ok};
+ghost use Rattle.std.specs.Prelude.{◌≡◌, ◌+◌, ◌≤◌, length, [], true, Ok};
 ghost use Rattle.characters.specs.Lines.{line_length};
-ghost use Rattle.bdf.specs.Reader.{start, in_bitmap, step, first_refusal, last_reader};
+ghost use Rattle.bdf.specs.Reader.{start, in_bitmap, step, first_refusal, last_reader, file_lines};
 ghost use Rattle.bdf_lines.specs.Forms.{line_at};
 ghost use Rattle.bdf.specs.Within.{Within};
-ghost use Rattle.bdf.specs.Walk.{lines_from, Measured, put_if, put_lines_if, Room, Carries, LineOver, strip_of, put_strip_if, StripFits, put_spelling_if, SpellingFits, AnswerFits};
+ghost use Rattle.bdf.specs.Walk.{Measured, put_if, put_lines_if, Room, Carries, LineOver, strip_of, put_strip_if, StripFits, put_spelling_if, SpellingFits, AnswerFits};
 
 use super::reader::{Answer, Expected, Reader};
 use super::{glyphs, usual};
@@ -21,22 +21,21 @@ pub struct Strip {
     pub stride: usize,
 }
 
-// A reader between two lines, and the position of the next line.
+// A reader between two lines, and the rest of the file from the next line on.
 #[derive(Clone, Copy)]
-pub struct Position {
+pub struct Position<'a> {
     pub reader: Reader,
-    pub at: usize,
+    pub rest: &'a [u8],
 }
 
-// What the line from a position on does, and where it ends: at its feed, or at the file's end.
-fn line_at(file: &[u8], at: usize, reader: Reader) -> (Result<Answer, Refusal>, usize)
-    requires at_in_bounds { at ≤ length file.now }
-    requires within { Within reader }
-    ensures { (result.0 ≡ step reader (line_at file.now at)) × (result.1 ≡ at + line_length (drop at file.now)) }
+// What the first line of the rest of a file does, and where it ends: at its feed, or at the file's end.
+fn first_line(text: &[u8], reader: Reader) -> (Result<Answer, Refusal>, usize)
+    requires { Within reader }
+    ensures { (result.0 ≡ step reader (line_at text.now 0)) × (result.1 ≡ line_length text.now) }
 {
-    let Some((answer, to)) = usual::answer_at(file, at, reader) else {
-        let end = line_end(file, at);
-        return (reader.step(without_return(&file[at..end])), end);
+    let Some((answer, to)) = usual::answer_at(text, reader) else {
+        let end = line_end(text, 0);
+        return (reader.step(without_return(&text[..end])), end);
     };
     (answer, to - 1)
 }
@@ -79,56 +78,52 @@ fn put_row(pieces: &mut [u8], writing: bool, strip: Strip, i: usize, bits: u64)
 }
 
 // Passes over bitmap lines that end in a feed, and puts them into the atlas, if it is written.
-fn put_rows(
-    file: &[u8],
-    from: usize,
+fn put_rows<'a>(
+    text: &'a [u8],
     pieces: &mut [u8],
     size: usize,
     writing: bool,
     reader: Reader,
-) -> Position
-    requires from_in_bounds { from ≤ length file.now }
+) -> Position<'a>
     requires within { Within reader }
     requires reader_value { in_bitmap reader ≡ true }
-    requires room { Room writing (last_reader reader (lines_from file.now from)) size (length pieces.old) }
-    ensures { Carries file.now writing size reader from pieces.old result.reader result.at pieces.new }
+    requires room { Room writing (last_reader reader (file_lines text.now)) size (length pieces.old) }
+    ensures { Carries text.now writing size reader pieces.old result.reader result.rest.now pieces.new }
 {
     let width = reader.bbx.width;
     let strip = strip_of(reader);
     let mut present = reader;
-    let mut at = from;
+    let mut rest = text;
     for read in reader.read..reader.bbx.height {
-        let Some((bits, end)) = forms::row_at(file, at, width) else {
+        let Some((bits, end)) = forms::row_at(rest, width) else {
             break;
         };
         put_row(pieces, writing, strip, read as usize, bits);
         present.read = read + 1;
-        at = end + 1;
+        rest = &rest[end + 1..];
     }
     Position {
         reader: present,
-        at,
+        rest,
     }
 }
 
 // Passes over bitmap lines, where they are next.
-fn rows_at(
-    file: &[u8],
-    at: usize,
+fn rows_at<'a>(
+    text: &'a [u8],
     pieces: &mut [u8],
     size: usize,
     writing: bool,
     reader: Reader,
-) -> Position
-    requires at_in_bounds { at ≤ length file.now }
+) -> Position<'a>
     requires within { Within reader }
-    requires room { Room writing (last_reader reader (lines_from file.now at)) size (length pieces.old) }
-    ensures { Carries file.now writing size reader at pieces.old result.reader result.at pieces.new }
+    requires room { Room writing (last_reader reader (file_lines text.now)) size (length pieces.old) }
+    ensures { Carries text.now writing size reader pieces.old result.reader result.rest.now pieces.new }
 {
     if reader.in_bitmap() {
-        return put_rows(file, at, pieces, size, writing, reader);
+        return put_rows(text, pieces, size, writing, reader);
     }
-    Position { reader, at }
+    Position { reader, rest: text }
 }
 
 // Puts a character into the mapping that follows an atlas of `size` bytes, if it is written.
@@ -164,21 +159,19 @@ fn put(pieces: &mut [u8], size: usize, writing: bool, reader: Reader, answer: An
     }
 }
 
-// Reads the line from a position on, and puts what it says, if it is written: the reader after it, and where it ends.
+// Reads the first line of the rest of a file, and puts what it says, if it is written: the reader after it, and where it ends.
 fn put_line(
-    file: &[u8],
-    at: usize,
+    text: &[u8],
     pieces: &mut [u8],
     size: usize,
     writing: bool,
     reader: Reader,
 ) -> Result<(Reader, usize), Refusal>
-    requires at_in_bounds { at ≤ length file.now }
     requires within { Within reader }
-    requires room { Room writing (last_reader reader (lines_from file.now at)) size (length pieces.old) }
-    ensures { LineOver file.now writing size reader at pieces.old result pieces.new }
+    requires room { Room writing (last_reader reader (file_lines text.now)) size (length pieces.old) }
+    ensures { LineOver text.now writing size reader pieces.old result pieces.new }
 {
-    let (line, end) = line_at(file, at, reader);
+    let (line, end) = first_line(text, reader);
     let answer = line?;
     put(pieces, size, writing, reader, answer);
     Ok((answer.reader(), end))
@@ -197,26 +190,27 @@ fn finished(reader: Reader) -> Result<Reader, Refusal>
 
 // Reads a file whole, and puts its atlas of `size` bytes and its mapping, if they are written: the reader after its last line.
 pub fn pass(file: &[u8], pieces: &mut [u8], size: usize, writing: bool) -> Result<Reader, Refusal>
-    requires room { Room writing (last_reader start (lines_from file.now 0)) size (length pieces.old) }
-    requires file_value { writing ≡ true → first_refusal start (lines_from file.now 0) ≡ 0 }
-    ensures value { Measured result start (lines_from file.now 0) }
-    ensures pieces_after { pieces.new ≡ put_lines_if writing size start (lines_from file.now 0) pieces.old }
+    requires room { Room writing (last_reader start (file_lines file.now)) size (length pieces.old) }
+    requires file_value { writing ≡ true → first_refusal start (file_lines file.now) ≡ 0 }
+    ensures value { Measured result start (file_lines file.now) }
+    ensures pieces_after { pieces.new ≡ put_lines_if writing size start (file_lines file.now) pieces.old }
 {
     let mut reader = Reader::start();
-    let mut at = 0;
+    let mut rest = file;
     loop {
-        let position = rows_at(file, at, pieces, size, writing, reader);
+        let position = rows_at(rest, pieces, size, writing, reader);
         let present = position.reader;
-        if let Some((next, to)) = usual::move_at(file, position.at, present) {
+        let text = position.rest;
+        if let Some((next, to)) = usual::move_at(text, present) {
             reader = next;
-            at = to;
+            rest = &text[to..];
             continue;
         }
-        let (next, end) = put_line(file, position.at, pieces, size, writing, present)?;
+        let (next, end) = put_line(text, pieces, size, writing, present)?;
         reader = next;
-        if file.len() <= end {
+        if text.len() <= end {
             return finished(reader);
         }
-        at = end + 1;
+        rest = &text[end + 1..];
     }
 }

@@ -25,14 +25,14 @@ returns-in_err-next-clause-value c = let p = err_from_is_err_and c.from_residual
 pub returns-in_err-next-clause-pieces_after : goal.returns-in_err-next-clause-pieces_after
 returns-in_err-next-clause-pieces_after c = search (pass_kept, c.in_err-next.was)
 
-pub returns-then-file-end-clause-value : goal.returns-then-file-end-clause-value
-returns-then-file-end-clause-value c = search (pass_end, c.in_ok-next.was)
+pub returns-then-text-end-clause-value : goal.returns-then-text-end-clause-value
+returns-then-text-end-clause-value c = search (pass_end, c.in_ok-next.was)
 
-pub returns-then-file-end-clause-pieces_after : goal.returns-then-file-end-clause-pieces_after
-returns-then-file-end-clause-pieces_after c = search (pass_put, c.in_ok-next.was)
+pub returns-then-text-end-clause-pieces_after : goal.returns-then-text-end-clause-pieces_after
+returns-then-text-end-clause-pieces_after c = search (pass_put, c.in_ok-next.was)
 
 pub loop-next-smaller : goal.loop-next-smaller
-loop-next-smaller c = search (pass_less, c.in_ok-next.was)
+loop-next-smaller c = search pass_less
 
 pub loop-next-preserved : goal.loop-next-preserved
 loop-next-preserved c = search (pass_on, c.in_ok-next.was)

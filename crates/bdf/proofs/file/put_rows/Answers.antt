@@ -9,14 +9,14 @@ strip_of-strip-requires-clause-le_glyphs c = search bitmap-glyph
 pub loop-read-init : goal.loop-read-init
 loop-read-init c = (search rows_same, search rows_start)
 
-pub row_at-requires-clause-width_bound : goal.row_at-requires-clause-width_bound
-row_at-requires-clause-width_bound c = search width_small
+pub row_at-requires : goal.row_at-requires
+row_at-requires c = search width_small
 
 pub put_row-requires : goal.put_row-requires
 put_row-requires c = search row_strip_fits
 
-pub overflow_add-at : goal.overflow_add-at
-overflow_add-at c = search row_end_fits
+pub overflow_add-rest : goal.overflow_add-rest
+overflow_add-rest c = search row_end_fits
 
 pub loop-read-preserved : goal.loop-read-preserved
 loop-read-preserved c = (search rows_next, search rows_step)

@@ -5,4 +5,4 @@ use Rattle.bdf.specs.Walk.{Carries, rows_read}
 use Rattle.bdf.proofs.file.put_rows.Given as goal
 
 abbrev pub invariant-loop-read : goal.invariant-loop-read
-invariant-loop-read l = (l.present ≡ rows_read l.read l.fn.reader) × Carries l.file l.writing l.size l.fn.reader l.from l.initial.pieces l.present l.at l.pieces
+invariant-loop-read l = (l.present ≡ rows_read l.read l.fn.reader) × Carries l.fn.text l.writing l.size l.fn.reader l.initial.pieces l.present l.rest l.pieces

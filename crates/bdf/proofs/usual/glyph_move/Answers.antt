@@ -2,11 +2,11 @@
 use Rattle.bdf.proofs.Moves.{move_none, empty_on, start_on}
 use Rattle.bdf.proofs.usual.glyph_move.Goals as goal
 
-pub returns-then-file-at : goal.returns-then-file-at
-returns-then-file-at c = search move_none
+pub returns-then-text-eq0 : goal.returns-then-text-eq0
+returns-then-text-eq0 c = search move_none
 
-pub returns-then-file-at-eq10 : goal.returns-then-file-at-eq10
-returns-then-file-at-eq10 c = search empty_on
+pub returns-then-text-eq10 : goal.returns-then-text-eq10
+returns-then-text-eq10 c = search empty_on
 
 pub returns-then-left-eq0 : goal.returns-then-left-eq0
 returns-then-left-eq0 c = search move_none
