@@ -7,8 +7,8 @@ use mathlib.Core.Path.{◌≡◌, refl, sym, ap, ◌∙◌}
 use mathlib.Core.Bool.{Bool, true, false, cond, ◌&&◌, ◌||◌, true≢false, false≢true, and-false, and-eq-true_iff}
 use mathlib.Core.Logic.{◌⊎◌, inl, inr}
 use mathlib.Core.List.{List, [], ◌∷◌}
-use lib.ListN.{length, take, drop, get_or, length-drop}
-use lib.Seq.{get_or-drop, get_or-take, drop-cons, drop-drop, take-take, length-take-le}
+use lib.ListN.{length, take, drop, get_or}
+use lib.Seq.{get_or-take, drop-cons, take-take, length-take-le}
 use lib.Dec.{leb, eqb}
 use lib.Pow.{pow-add, shr_lt}
 use borrow.Author.Tests.{leb-true, eqb-true, eq-eqb, ne_eqb}

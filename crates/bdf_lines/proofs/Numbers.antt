@@ -5,15 +5,15 @@ use native.Mathlib.Decide.{dec_lt}
 use native.Mathlib.Numerals.{add-one}
 use native.Mathlib.Nat.{pow-suc, pow-le-pow_right, mod-eq_of_lt}
 use mathlib.Core.Path.{◌≡◌, refl, sym, ap, ◌∙◌}
-use mathlib.Core.Bool.{Bool, true, false, not, cond, ◌&&◌, and-true, and-false, true≢false}
+use mathlib.Core.Bool.{Bool, true, false, not, cond, ◌&&◌, and-false, true≢false}
 use mathlib.Core.Logic.{◌⊎◌, inl, inr}
 use mathlib.Core.List.{List, [], ◌∷◌}
-use lib.ListN.{length, take, drop, get_or, drop_of_length-le}
-use lib.Seq.{drop-cons}
+use lib.ListN.{length, take, drop, get_or, drop_of_length-le, length-drop}
+use lib.Seq.{drop-cons, take_all}
 use lib.Dec.{eqb, leb, ltb}
-use lib.Pointwise.{pointwise}
 use lib.Bits.{bit_or, or_add_and, and_le_l, and_le_r, or_lt, or_shifted}
 use borrow.Author.Tests.{eqb-true, leb-true, leb-false, lt-leb, eq-eqb, ne_eqb, not-true, not-false}
+use Rattle.std.specs.Int.{from_bool}
 use Rattle.std.specs.Prelude.{Option, Some, None}
 use Rattle.bdf_lines.specs.declared.values.Number.{Number}
 use Rattle.bdf_lines.specs.Words.{is_digit, are_digits, decimal_from, most, signed, digits_of, number_of, is_hex, hex_value, are_hex, hex_from, is_row, row_bits, row_of}
@@ -106,15 +106,28 @@ module _ (word : List ℕ) (minus : Bool) where
 
 -- ---- `number_of`: a word that is a number
 
-pub number_minus : (word size : List ℕ) (r : Option Number) → pointwise eqb (take 1 word) (0x2D ∷ []) ≡ true → size ≡ drop 1 word → r ≡ digits_of true size → r ≡ number_of word
-unfolding number_of
-number_minus [] size r h e q = absurd (true≢false (sym h))
-number_minus (b ∷ s) size r h e q = rw (eqb-true b 0x2D (both_first (eqb b 0x2D) true h)) (rw e at q)
+-- t is what `is_empty` says
+module _ (word : List ℕ) (t : Bool) (d : t ≡ eqb (length word) 0) where
+  pub number_none : t ≡ true → None ≡ number_of word
+  unfolding number_of
+  number_none e = go word (sym d ∙ e)
+    where
+      go : (s : List ℕ) → eqb (length s) 0 ≡ true → None ≡ number_of s
+      go [] f = refl
+      go (b ∷ s) f = absurd (omega (arith, eqb-true (length (b ∷ s)) 0 f))
 
-pub number_plain : (word : List ℕ) (r : Option Number) → pointwise eqb (take 1 word) (0x2D ∷ []) ≡ false → r ≡ digits_of false word → r ≡ number_of word
-unfolding number_of digits_of
-number_plain [] r h q = q
-number_plain (b ∷ s) r h q = rw (sym (and-true (eqb b 0x2D)) ∙ h) q
+  -- after a sign, which takes k bytes
+  pub number_signed : t ≡ false → (k : ℕ) → k ≡ from_bool (eqb (get_or word 0 0) 0x2D) → (r : Option Number) → r ≡ digits_of (eqb (get_or word 0 0) 0x2D) (take (length word - k) (drop k word)) → r ≡ number_of word
+  unfolding number_of
+  number_signed e k f r q = go word (sym d ∙ e) f (rw (take_all (length word - k) (drop k word) (omega (arith, length-drop k word))) at q)
+    where
+      on : (b : ℕ) (s : List ℕ) (m : Bool) → k ≡ from_bool m → r ≡ digits_of m (drop k (b ∷ s)) → r ≡ cond m (digits_of true s) (digits_of false (b ∷ s))
+      on b s true g p = rw g at p
+      on b s false g p = rw g at p
+
+      go : (s : List ℕ) → eqb (length s) 0 ≡ false → k ≡ from_bool (eqb (get_or s 0 0) 0x2D) → r ≡ digits_of (eqb (get_or s 0 0) 0x2D) (drop k s) → r ≡ number_of s
+      go [] h g p = absurd (true≢false h)
+      go (b ∷ s) h g p = on b s (eqb b 0x2D) g p
 
 -- ---- a hexadecimal digit
 

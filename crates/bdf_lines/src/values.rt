@@ -65,10 +65,11 @@ fn digits(word: &[u8], minus: bool) -> Option<Number>
 fn number_of(word: &[u8]) -> Option<Number>
     ensures { result ≡ number_of word.now }
 {
-    let Some(size) = word.strip_prefix(b"-") else {
-        return digits(word, false);
-    };
-    digits(size, true)
+    if word.is_empty() {
+        return None;
+    }
+    let minus = word[0] == b'-';
+    digits(&word[usize::from(minus)..], minus)
 }
 
 // The number that is the first word from a position on, and the position after it.
