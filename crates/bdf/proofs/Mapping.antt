@@ -14,7 +14,7 @@ use Rattle.characters.proofs.Sequences.{step_alone, step-two, step-three, step-f
 use Rattle.characters.proofs.Steps.{IsScalar, cond_both}
 use Rattle.characters.proofs.Folds.{fold-character, fold_past, well_formed_past}
 use Rattle.characters.proofs.Parts.{fold-after}
-use Rattle.mapping.specs.declared.Found.TheVariants.{At}
+use Rattle.std.specs.Prelude.{Some}
 use Rattle.mapping.specs.Mapping.{scalars_from, spelled, list_of, place_from, index, refusal}
 use Rattle.bdf.specs.Reader.{utf8, spelling}
 use Rattle.bdf.specs.Font.{spellings}
@@ -192,7 +192,7 @@ least_first least (v ∷ vs) (suc k) e h =
     let i = r.from in
     omega (arith, least_first (v + 1) vs k r.rest (omega arith))
 
-placed : (least from : ℕ) (vs : List ℕ) (k : ℕ) → are_rising least vs ≡ true → k < length vs → place_from from (get_or vs k 0) vs ≡ At (from + k)
+placed : (least from : ℕ) (vs : List ℕ) (k : ℕ) → are_rising least vs ≡ true → k < length vs → place_from from (get_or vs k 0) vs ≡ Some (from + k)
 unfolding place_from
 placed least from [] k e h = absurd (omega arith)
 placed least from (v ∷ vs) zero e h = let z : from + 0 ≡ from = omega arith in rw (eq-eqb v v refl, z)
