@@ -2,7 +2,7 @@
 use Prim.Native.Nat.{ℕ, ◌+◌, ◌-◌, ◌≤◌, ◌<◌}
 use native.Mathlib.Omega.{arith}
 use mathlib.Core.Path.{◌≡◌, refl, sym, ap, ◌∙◌}
-use mathlib.Core.Bool.{Bool, true, false}
+use mathlib.Core.Bool.{Bool, true, false, true≢false}
 use mathlib.Core.List.{List, [], ◌∷◌}
 use lib.ListN.{length, take, drop, get_or, length-drop}
 use lib.Dec.{eqb}
@@ -87,9 +87,13 @@ empty_step : (r : Reader) → r.expected ≡ Glyph → step r [] ≡ Ok (Passed 
 unfolding step words is_comment
 empty_step r e = rw (outside r [] Glyph e refl)
 
-module _ (text : List ℕ) (h : length text ≡ 0 → ⊥) (f : get_or text 0 0 ≡ 0x0A) where
+not_empty : (s : List ℕ) → eqb (length s) 0 ≡ false → 0 < length s
+not_empty [] e = absurd (true≢false e)
+not_empty (b ∷ s) e = omega arith
+
+module _ (text : List ℕ) (h : 0 < length text) (f : get_or text 0 0 ≡ 0x0A) where
   empty-length : line_length text ≡ 0
-  empty-length = empty_line text (omega arith) f
+  empty-length = empty_line text h f
 
   empty-at : line_at text 0 ≡ []
   unfolding line_from without_return
@@ -103,8 +107,10 @@ module _ (text : List ℕ) (r : Reader) where
   moved_to : (s : Reader) (to : ℕ) → LineTo text 0 to → step r (line_at text 0) ≡ Ok (Passed s) → UsualMove text r (Some (s, to))
   moved_to s to l q = record { found = λ t end e. let x = found_is s t to end e in rw (← x.0, ← x.1) (l, q) }
 
-  pub empty_on : (length text ≡ 0 → ⊥) → get_or text 0 0 ≡ 0x0A → r.expected ≡ Glyph → UsualMove text r (Some (r, 1))
-  empty_on h f e =
+  -- t is what `is_empty` says
+  pub empty_on : (t : Bool) → t ≡ eqb (length text) 0 → t ≡ false → get_or text 0 0 ≡ 0x0A → r.expected ≡ Glyph → UsualMove text r (Some (r, 1))
+  empty_on t d o f e =
+      let h = not_empty text (sym d ∙ o) in
       moved_to r 1 (record { ends = omega (arith, empty-length text h f); inside = omega arith })
       (ap (step r) (empty-at text h f) ∙ empty_step r e)
 
@@ -158,9 +164,6 @@ module _ (text : List ℕ) (r : Reader) (x : Option (Result Answer Refusal × �
 -- ---- a move in the pass over a file, after bitmap lines
 
 module _ (text : List ℕ) (s : Reader) (x : Option (Reader × ℕ)) (u : UsualMove text s x) (t : Reader) (to : ℕ) (e : x ≡ Some (t, to)) where
-  pub move_inside : to ≤ length text
-  move_inside = (u.found t to e).0.inside
-
   module _ (w : Bool) (size : ℕ) (r : Reader) (rest old mid : List ℕ) (d : Carries rest w size r old s text mid) where
     pub move_less : length (take (length text - to) (drop to text)) < length rest
     move_less = let l = (u.found t to e).0 in rw (part_rest text to) (omega (arith, length-drop to text, d.onward, l.ends, l.inside))

@@ -89,9 +89,6 @@ module _ (file : List ℕ) (w : Bool) (size : ℕ) (out : List ℕ) where
     pub pass_room : Room w (last_reader s (file_lines text)) size (length mid)
     pass_room = pass_here s text mid both
 
-    pub pass_length : (exit : List ℕ) → length exit ≡ length mid → length exit ≡ length out
-    pass_length exit m = m ∙ both.carries.same_length
-
     module _ (x : Result (Reader × ℕ) Refusal) (exit : List ℕ) (l : LineOver text w size s mid x exit) where
       module _ (n : Refusal) (z : x ≡ Err n) where
         refused-code : number n ≡ first_refusal start (file_lines file)

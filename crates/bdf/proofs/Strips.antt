@@ -297,9 +297,6 @@ module _ (file : List ℕ) (w : Bool) (size : ℕ) (r : Reader) (out : List ℕ)
     pub row_end_fits : Fits w64 (length file) → Fits w64 (end + 1)
     row_end_fits l = omega (arith, (f.found bits end e).more, carried.onward)
 
-    pub row_inside : end + 1 ≤ length rest
-    row_inside = omega (arith, (f.found bits end e).more)
-
     pub row_strip_fits : Room w (last_reader r (file_lines file)) size (length out) → (s : Strip) → s ≡ strip_of r → StripFits w s i bits (length mid)
     unfolding strip_of
     row_strip_fits m s q =

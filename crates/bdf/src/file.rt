@@ -63,7 +63,7 @@ fn strip_of(reader: Reader) -> Strip
     }
 }
 
-// Puts a bitmap line into the atlas, if it is written.
+// Puts a bitmap line into the atlas, if it is written. The flag stands beside the slice, since a lent slice in an Option would be lent anew for each line.
 fn put_row(pieces: &mut [u8], writing: bool, strip: Strip, i: usize, bits: u64)
     requires { StripFits writing strip i bits (length pieces.old) }
     ensures { pieces.new ≡ put_strip_if writing strip i bits pieces.old }

@@ -47,7 +47,7 @@ pub enum Expected {
     Nothing,
 }
 
-// What is known before a line.
+// What is known before a line. `Within` is asked for and is no invariant of the type, since `expecting` makes states in which it does not hold.
 #[derive(Clone, Copy)]
 pub struct Reader {
     pub expected: Expected,

@@ -13,7 +13,7 @@ fn glyph_move(text: &[u8], reader: Reader) -> Option<(Reader, usize)>
     requires { reader.expected ≡ Glyph }
     ensures { UsualMove text.now reader result }
 {
-    if text.len() == 0 {
+    if text.is_empty() {
         return None;
     }
     if text[0] == b'\n' {

@@ -35,8 +35,8 @@ pub fn appended(v: u64, digit: u8) -> u64
     requires v_le_most { v ≤ most }
     ensures { result ≡ min (v * 10 + (digit - 0x30)) most }
 {
-    if 1800000000000000000 <= v {
-        return 18000000000000000000;
+    if 1_800_000_000_000_000_000 <= v {
+        return 18_000_000_000_000_000_000;
     }
     v * 10 + u64::from(digit - b'0')
 }

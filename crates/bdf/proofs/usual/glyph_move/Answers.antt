@@ -2,8 +2,8 @@
 use Rattle.bdf.proofs.Moves.{move_none, empty_on, start_on}
 use Rattle.bdf.proofs.usual.glyph_move.Goals as goal
 
-pub returns-then-text-eq0 : goal.returns-then-text-eq0
-returns-then-text-eq0 c = search move_none
+pub returns-then-is_empty : goal.returns-then-is_empty
+returns-then-is_empty c = search move_none
 
 pub returns-then-text-eq10 : goal.returns-then-text-eq10
 returns-then-text-eq10 c = search empty_on
