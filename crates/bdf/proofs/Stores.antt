@@ -1,10 +1,9 @@
 -- What stores leave: the bytes of a number, and bytes that fill a part. Assumes nothing.
-use Prim.Native.Nat.{ℕ, ◌+◌, ◌-◌, ◌*◌, ◌/◌, ◌%◌, suc}
-use mathlib.Core.Path.{◌≡◌, ◌∙◌}
-use mathlib.Core.List.{List, [], ◌∷◌, ◌++◌, append-nil}
-use native.Mathlib.Numerals.{add-one}
+use Prim.Native.Nat.{ℕ, ◌+◌, ◌-◌, ◌*◌, ◌/◌, ◌≤◌}
+use mathlib.Core.Path.{◌≡◌, ◌∙◌, sym, ap}
+use mathlib.Core.List.{List, [], ◌∷◌, ◌++◌, append-nil, append_assoc}
 use native.Mathlib.Omega.{arith}
-use lib.ListN.{length, set, drop, drop_of_length-le}
+use lib.ListN.{length, take, drop, drop_of_length-le}
 use lib.Seq.{sets, sets-eq, drop-drop}
 use mir.Syntax.{w8}
 use mir.Val.{Fits}
@@ -19,17 +18,19 @@ use Rattle.bdf.specs.Writing.{GoodCell}
 pub sets_all : (s vs : List ℕ) → length s ≡ length vs → sets s 0 vs ≡ vs
 sets_all s vs e = sets-eq vs s 0 (omega arith) ∙ rw (drop_of_length-le s {i = 0 + length vs} (omega arith)) (append-nil vs)
 
-pub two_bytes : (s : List ℕ) (i n : ℕ) → set (set s i (n % 256)) (i + 1) (n / 256 % 256) ≡ put16 s i n
-unfolding put16
-two_bytes s i n = rw add-one
+-- the k bytes vs in a part
+stored_in : (s vs : List ℕ) (i k : ℕ) → i + k ≤ length s → length vs ≡ k → take i s ++ (vs ++ drop (i + k - i) (drop i s)) ≡ sets s i vs
+stored_in s vs i k h e =
+    let n : i + k - i ≡ length vs = omega arith in
+    rw (n, drop-drop (length vs) i s) (sym (append_assoc (take i s) vs (drop (i + length vs) s)) ∙ sym (sets-eq vs s i (omega arith)))
 
--- four bytes as twice two
-pub four_bytes : (s t r : List ℕ) (i n : ℕ) → r ≡ put16 t (i + 2) (n / 65_536) → t ≡ put16 s i n → r ≡ put32 s i n
-unfolding put16 put32
-four_bytes s t r i n e f =
-    let k : i + 2 ≡ suc (suc i) = omega arith in
-    let high : n / 65_536 / 256 % 256 ≡ n / 16_777_216 % 256 = omega arith in
-    e ∙ rw (f, k, high)
+pub two_bytes : (s vs : List ℕ) (i n : ℕ) → i + 2 ≤ length s → vs ≡ u16 n → take i s ++ (vs ++ drop (i + 2 - i) (drop i s)) ≡ put16 s i n
+unfolding put16
+two_bytes s vs i n h e = stored_in s vs i 2 h (ap length e) ∙ ap (sets s i) e
+
+pub four_bytes : (s vs : List ℕ) (i n : ℕ) → i + 4 ≤ length s → vs ≡ u32 n → take i s ++ (vs ++ drop (i + 4 - i) (drop i s)) ≡ put32 s i n
+unfolding put32
+four_bytes s vs i n h e = stored_in s vs i 4 h (ap length e) ∙ ap (sets s i) e
 
 -- three numbers, one after the other
 pub offsets_stored : (s t u r : List ℕ) (a : ℕ) → r ≡ put32 u 8 (28 + a) → u ≡ put32 t 4 a → t ≡ put32 s 0 28 → length s ≡ 12 → r ≡ u32 28 ++ (u32 a ++ u32 (28 + a))

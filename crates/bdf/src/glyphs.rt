@@ -86,13 +86,12 @@ pub fn clear(atlas: &mut [u8])
     atlas.fill(0);
 }
 
-// Stores the two low bytes of a number from `at` on.
-fn put_u16(output: &mut [u8], at: usize, n: u32)
+// Stores the two bytes of a number from `at` on.
+fn put_u16(output: &mut [u8], at: usize, n: u16)
     requires { at + 2 ≤ length output.old }
     ensures { output.new ≡ put16 output.old at n }
 {
-    output[at] = (n % 256) as u8;
-    output[at + 1] = (n / 256 % 256) as u8;
+    output[at..at + 2].copy_from_slice(&n.to_le_bytes());
 }
 
 // Stores the four bytes of a number from `at` on.
@@ -100,8 +99,7 @@ fn put_u32(output: &mut [u8], at: usize, n: u32)
     requires { at + 4 ≤ length output.old }
     ensures { output.new ≡ put32 output.old at n }
 {
-    put_u16(output, at, n);
-    put_u16(output, at + 2, n / 65536);
+    output[at..at + 4].copy_from_slice(&n.to_le_bytes());
 }
 
 // Stores where atlas and mapping begin, and how long the atlas is.
@@ -116,7 +114,7 @@ fn put_offsets(output: &mut [u8], atlas: u32)
 }
 
 // Stores the mapping's length, the replacement index and the atlas's width.
-fn put_counts(output: &mut [u8], mapping: u32, width: u32)
+fn put_counts(output: &mut [u8], mapping: u16, width: u16)
     requires { length output.old ≡ 6 }
     ensures { output.new ≡ u16 mapping ++ (u16 0 ++ u16 width) }
 {
@@ -152,6 +150,7 @@ pub fn put_record(output: &mut [u8], cell: BoundingBox, atlas: u32, mapping: u32
     ensures { output.new ≡ record_of cell atlas mapping }
 {
     put_offsets(&mut output[0..12], atlas);
-    put_counts(&mut output[12..18], mapping, 16 * cell.width);
+    let width = 16 * cell.width;
+    put_counts(&mut output[12..18], mapping as u16, width as u16);
     put_metrics(&mut output[18..28], cell);
 }
