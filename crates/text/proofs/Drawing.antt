@@ -8,7 +8,7 @@ use lib.ListN.{length, take, drop}
 use mir.Syntax.{w32}
 use mir.Val.{Fits}
 use Rattle.geometry.specs.declared.Point.{Point}
-use Rattle.geometry.specs.declared.target.Frame.{Frame}
+use Rattle.geometry.specs.declared.canvas.Frame.{Frame}
 use Rattle.geometry.specs.Painted.{Painted}
 use Rattle.geometry.proofs.Paintings.{painted_none, painted_then}
 use Rattle.characters.specs.Utf8.{chars}
