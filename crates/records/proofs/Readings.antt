@@ -1,4 +1,4 @@
--- Records read by value: where an accepted sheet's pieces lie, and what is read is what the definitions read. Assumes nothing.
+-- Records read by value: what is read is what the definitions read, and within the limits of drawing. Assumes nothing.
 use Prim.Native.Nat.{ℕ, ◌+◌, ◌-◌, ◌^◌, ◌≤◌, ◌<◌}
 use mathlib.Core.Path.{◌≡◌, refl, ap, ◌∙◌}
 use mathlib.Core.Bool.{Bool, true, false, cond}
@@ -7,38 +7,20 @@ use lib.Dec.{eqb}
 use lib.ListN.{length, get_or, take, drop}
 use lib.Seq.{get_or-take, get_or-drop}
 use native.Mathlib.Omega.{arith}
-use Rattle.geometry.specs.declared.OptionalGrey.{OptionalGrey}
 use Rattle.geometry.specs.declared.Point.{Point}
-use Rattle.line.specs.declared.Baseline.{Baseline}
-use Rattle.line.specs.declared.DecorationColor.{DecorationColor}
 use Rattle.line.specs.declared.MonoFont.{MonoFont}
 use Rattle.line.specs.declared.MonoTextStyle.{MonoTextStyle}
+use Rattle.line.specs.Line.{font_of}
 use Rattle.line.specs.Limits.{FontLimits}
-use Rattle.text.specs.declared.Alignment.{Alignment}
-use Rattle.text.specs.declared.LineHeight.{LineHeight}
 use Rattle.text.specs.declared.LineHeight.TheVariants.{Pixels, Percent}
 use Rattle.text.specs.declared.TextStyle.{TextStyle}
-use Rattle.text.specs.Limits.{height_value}
+use Rattle.text.specs.Text.{Text}
+use Rattle.text.specs.Limits.{TextLimits, height_value}
 use Rattle.sheet.specs.Fields
-use Rattle.sheet.specs.Fields.{le16_at, le32_at, coordinate, font_at, item_at}
+use Rattle.sheet.specs.Fields.{font_at, item_at, atlas_bytes, mapping_bytes, text_bytes}
 use Rattle.sheet.specs.Requires.{FontListed, ItemListed}
-use Rattle.records.specs.Records.{optional_grey, decoration_color, alignment, baseline, line_height, mono_font, mono_text_style, style_of, text_style, item_of}
-
--- ---- pieces lie in the file
-
-module _ (b : List ℕ) (n o from size : ℕ) where
-  pub atlas_in : FontListed b n → o ≡ font_at n → from ≡ le32_at b o → size ≡ le32_at b (o + 4) → from + size ≤ length b
-  atlas_in g e f s = rw (s, f, e) (g.accepted.laid_out.font_in n g.listed).atlas_in
-
-  pub mapping_in : FontListed b n → o ≡ font_at n → from ≡ le32_at b (o + 8) → size ≡ le16_at b (o + 12) → from + size ≤ length b
-  mapping_in g e f s = rw (s, f, e) (g.accepted.laid_out.font_in n g.listed).mapping_in
-
-  pub text_in : ItemListed b n → o ≡ item_at b n → from ≡ le32_at b (o + 4) → size ≡ le16_at b (o + 10) → from + size ≤ length b
-  text_in g e f s = rw (s, f, e) (omega (arith, g.accepted.laid_out.item_in n g.listed, g.accepted.item-fits n g.listed))
-
--- an item's font is listed
-pub font_listed : (b : List ℕ) (n f : ℕ) → ItemListed b n → f ≡ Fields.font_number b (item_at b n) → FontListed b f
-font_listed b n f g e = record { accepted = g.accepted; listed = rw e (g.accepted.item-fits n g.listed).font_there }
+use Rattle.sheet.proofs.Bytes.{length_part}
+use Rattle.records.specs.Records.{line_height, mono_font, font, mono_text_style, style_of, text_style, item_of, item, item_font}
 
 -- ---- what is read
 
@@ -87,31 +69,29 @@ style_is b n o r e p =
       at 7 (item_at b n + 20) (omega arith) (omega arith),
     )
 
-pub style_made : (b : List ℕ) (t g : OptionalGrey) (u s : DecorationColor) → t ≡ optional_grey (get_or b 0 0) (get_or b 1 0) → g ≡ optional_grey (get_or b 2 0) (get_or b 3 0)
-    → u ≡ decoration_color (get_or b 4 0) (get_or b 5 0) → s ≡ decoration_color (get_or b 6 0) (get_or b 7 0)
-    → ◌≡◌ {A = MonoTextStyle} (record { text_color = t; background_color = g; underline_color = u; strikethrough_color = s }) (style_of b)
-unfolding style_of
-style_made b t g u s et eg eu es = rw (et, eg, eu, es)
+-- ---- an item, made of what is read
 
-module _ (b : List ℕ) (n o : ℕ) (e : o ≡ item_at b n) where
-  pub text_style_made : (a : Alignment) (l : Baseline) (h : LineHeight) (v : ℕ) → a ≡ alignment (get_or b (o + 21) 0) → l ≡ baseline (get_or b (o + 22) 0) → v ≡ le16_at b (o + 24)
-      → h ≡ line_height (get_or b (o + 23) 0) v → ◌≡◌ {A = TextStyle} (record { alignment = a; baseline = l; line_height = h }) (text_style b (item_at b n))
+module _ (b : List ℕ) (n : ℕ) where
+  -- an item of an accepted sheet is within the limits of drawing
+  pub item_limits_lem : (text : List ℕ) (p : Point) (t : TextStyle) → ItemListed b n → text ≡ text_bytes b (item_at b n) → p.x ≤ 4_194_304 → p.y ≤ 4_194_304 → t ≡ text_style b (item_at b n)
+      → TextLimits (length text) p.x p.y t.line_height
   unfolding text_style
-  text_style_made a l h v ea el ev eh = rw (ea, el, eh, ev, e)
+  item_limits_lem text p t g e px py et =
+      let fits = g.accepted.item-fits n g.listed in
+      let short = length_part b (Fields.slot_offset b (item_at b n)) (Fields.text_length b (item_at b n)) in
+      record { text_short = rw e (omega arith); near_x = px; near_y = py; height_small = rw (et, height_value_lem) fits.height_small }
 
-  pub position_made : (i j x y : ℕ) → i ≡ le16_at b o → x ≡ coordinate i → j ≡ le16_at b (o + 2) → y ≡ coordinate j → ◌≡◌ {A = Point} (record { x = x; y = y }) (item_of b (item_at b n)).position
-  unfolding item_of
-  position_made i j x y ei ex ej ey = rw (ex, ei, ey, ej, e)
+  pub item_made : (text : List ℕ) (p : Point) (s : MonoTextStyle) (t : TextStyle) → text ≡ text_bytes b (item_at b n) → p ≡ (item_of b (item_at b n)).position
+      → s ≡ mono_text_style b (item_at b n) → t ≡ text_style b (item_at b n) → ◌≡◌ {A = Text} (record { text = text; position = p; character_style = s; text_style = t }) (item b n)
+  unfolding item item_of
+  item_made text p s t e ep es et = rw (e, ep, es, et)
 
-pub font_made : (b : List ℕ) (n o w cw ch r s base so sh uo uh : ℕ) → o ≡ font_at n → w ≡ le16_at b (o + 16) → cw ≡ get_or b (o + 18) 0 → ch ≡ get_or b (o + 19) 0 → r ≡ le16_at b (o + 14) → s ≡ get_or b (o + 20) 0
-    → base ≡ get_or b (o + 21) 0 → so ≡ get_or b (o + 22) 0 → sh ≡ get_or b (o + 23) 0 → uo ≡ get_or b (o + 24) 0 → uh ≡ get_or b (o + 25) 0
-    → ◌≡◌ {A = MonoFont} (record {
-      atlas = record { width = w; cell_size = record { width = cw; height = ch } };
-      replacement_index = r;
-      character_spacing = s;
-      baseline = base;
-      strikethrough = record { offset = so; height = sh };
-      underline = record { offset = uo; height = uh };
-    }) (mono_font b (font_at n))
-unfolding mono_font
-font_made b n o w cw ch r s base so sh uo uh e ew ecw ech er es eb eso esh euo euh = rw (ew, ecw, ech, er, es, eb, eso, esh, euo, euh, e)
+  module _ (b' : List ℕ) (k : ℕ) (same : b' ≡ b) (number : k ≡ Fields.font_number b (item_at b n)) where
+    pub item_metrics : (m : MonoFont) → m ≡ mono_font b' (font_at k) → m ≡ (item_font b n).mono
+    unfolding item_font font
+    item_metrics m e = rw (same, number) at e
+
+    pub item_font_made : (m : MonoFont) (atlas mapping : List ℕ) → m ≡ (item_font b n).mono → atlas ≡ atlas_bytes b' (font_at k) → mapping ≡ mapping_bytes b' (font_at k)
+        → font_of m atlas mapping ≡ item_font b n
+    unfolding item_font font
+    item_font_made m atlas mapping e ea em = rw (e, ea, em, same, number)

@@ -1,11 +1,9 @@
 -- Fonts and items, as drawing reads them from the file. Assumes nothing.
 -- To be believed: it says what a sheet means.
-use Rattle.std.specs.Prelude.{ℕ, cond, List, eqb, get_or}
-use Rattle.geometry.specs.declared.OptionalGrey.{OptionalGrey}
-use Rattle.geometry.specs.declared.OptionalGrey.TheVariants.{Unset, Set}
+use Rattle.std.specs.Prelude.{ℕ, Option, None, Some, cond, List, eqb, get_or}
 use Rattle.line.specs.declared.MonoFont.{MonoFont}
 use Rattle.line.specs.declared.DecorationColor.{DecorationColor}
-use Rattle.line.specs.declared.DecorationColor.TheVariants.{None, TextColor, Custom}
+use Rattle.line.specs.declared.DecorationColor.TheVariants.{None as NoColor, TextColor, Custom}
 use Rattle.line.specs.declared.MonoTextStyle.{MonoTextStyle}
 use Rattle.line.specs.declared.Baseline.{Baseline}
 use Rattle.line.specs.declared.Baseline.TheVariants.{Top, Bottom, Middle, Alphabetic}
@@ -21,12 +19,12 @@ use Rattle.sheet.specs.Fields
 -- ---- codes
 
 -- "0 none, 1 set"; "An unused grey is ignored"
-unfoldable pub optional_grey : ℕ → ℕ → OptionalGrey
-optional_grey mode grey = cond (eqb mode 0) Unset (Set grey)
+unfoldable pub optional_grey : ℕ → ℕ → Option ℕ
+optional_grey mode grey = cond (eqb mode 0) None (Some grey)
 
 -- "0 none, 1 text colour, 2 own grey"
 unfoldable pub decoration_color : ℕ → ℕ → DecorationColor
-decoration_color mode grey = cond (eqb mode 0) None (cond (eqb mode 1) TextColor (Custom grey))
+decoration_color mode grey = cond (eqb mode 0) NoColor (cond (eqb mode 1) TextColor (Custom grey))
 
 -- "0 left, 1 centre, 2 right"
 unfoldable pub alignment : ℕ → Alignment

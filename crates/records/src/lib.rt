@@ -1,200 +1,210 @@
 // Fonts and items of an accepted sheet: numbers by value, pieces as parts of the file.
 #![tactic(auto)]
 
-ghost use Rattle.std.specs.Prelude.{◌≡◌, ◌≤◌, length};
-ghost use Rattle.line.specs.Limits.{FontLimits};
-ghost use Rattle.sheet.specs.Fields.{coordinate, font_at, item_at, font_number, atlas_bytes, mapping_bytes, text_bytes};
-ghost use Rattle.sheet.specs.Requires.{FontListed, ItemListed};
-ghost use Rattle.records.specs.Records.{optional_grey, decoration_color, alignment, baseline, line_height, mono_font, mono_text_style, style_of, text_style, item_of};
+ghost use Rattle.std.specs.Prelude.{◌≡◌, ◌≤◌, ◌<◌, ◌↔◌, IsSome, IfSome};
+ghost use Rattle.line.specs.Lent.{lent};
+ghost use Rattle.text.specs.Lent.{lent_font, lent_text};
+ghost use Rattle.sheet.specs.Fields.{coordinate, font_count, item_count, font_at, item_at, font_number, atlas_bytes, mapping_bytes, text_bytes};
+ghost use Rattle.records.specs.Records.{mono_font, font, mono_text_style, text_style, item_of, item, item_font};
 
 use atlas::Atlas;
-use geometry::{ORIGIN, OptionalGrey, Point, Size};
-use line::{Baseline, DecorationColor, DecorationDimensions, MonoFont, MonoTextStyle};
-use sheet::fields::{font_offset, item_offset, part, u8_at, u16_at, u32_at};
-use text::{Alignment, LineHeight, TextStyle};
+pub use codes::style_of;
+use codes::{alignment, baseline, line_height};
+use geometry::{ORIGIN, Point, Size};
+use line::{DecorationDimensions, Font, Metrics, MonoFont, MonoTextStyle};
+pub use listed::{FontRecord, ItemRecord};
+use sheet::Sheet;
+use sheet::fields::{font_offset, part, u8_at, u16_at, u32_at};
+use text::{Text, TextLayout, TextStyle};
 
-// Font `n`, but for its pieces.
-pub fn font_at(sheet: &[u8], n: u32) -> MonoFont
-    requires { FontListed sheet.now n }
-    ensures value { result ≡ mono_font sheet.now (font_at n) }
-    ensures font_limits { FontLimits result }
+mod codes;
+mod listed;
+
+// Font `n` of a sheet, if it has so many.
+pub fn font(sheet: Sheet<'_>, n: u32) -> Option<FontRecord<'_>>
+    ensures listed { IsSome result ↔ (n < font_count sheet.entry.bytes.now) }
+    ensures same_sheet { IfSome result (λ font. font.sheet.bytes.now ≡ sheet.entry.bytes.now) }
+    ensures same_number { IfSome result (λ font. font.number ≡ n) }
 {
-    let o = font_offset(n);
-    let cell_size = Size {
-        width: u8_at(sheet, o + 18),
-        height: u8_at(sheet, o + 19),
-    };
-    let atlas = Atlas {
-        width: u16_at(sheet, o + 16) as u32,
-        cell_size: cell_size,
-    };
-    let strikethrough = DecorationDimensions {
-        offset: u8_at(sheet, o + 22),
-        height: u8_at(sheet, o + 23),
-    };
-    let underline = DecorationDimensions {
-        offset: u8_at(sheet, o + 24),
-        height: u8_at(sheet, o + 25),
-    };
-    MonoFont {
-        atlas: atlas,
-        replacement_index: u16_at(sheet, o + 14) as u32,
-        character_spacing: u8_at(sheet, o + 20),
-        baseline: u8_at(sheet, o + 21),
-        strikethrough: strikethrough,
-        underline: underline,
+    if sheet.header().font_count() <= n {
+        return None;
     }
+    Some(FontRecord { sheet, number: n })
 }
 
-// The bytes of font `n`'s atlas.
-pub fn atlas_bytes(sheet: &[u8], n: u32) -> &[u8]
-    requires { FontListed sheet.now n }
-    ensures { result.now ≡ atlas_bytes sheet.now (font_at n) }
+// Item `n` of a sheet, if it has so many.
+pub fn item(sheet: Sheet<'_>, n: u32) -> Option<ItemRecord<'_>>
+    ensures listed { IsSome result ↔ (n < item_count sheet.entry.bytes.now) }
+    ensures same_sheet { IfSome result (λ item. item.sheet.bytes.now ≡ sheet.entry.bytes.now) }
+    ensures same_number { IfSome result (λ item. item.number ≡ n) }
 {
-    let o = font_offset(n);
-    part(sheet, u32_at(sheet, o), u32_at(sheet, o + 4))
+    if sheet.header().item_count() <= n {
+        return None;
+    }
+    Some(ItemRecord { sheet, number: n })
 }
 
-// The bytes of font `n`'s mapping.
-pub fn mapping_bytes(sheet: &[u8], n: u32) -> &[u8]
-    requires { FontListed sheet.now n }
-    ensures { result.now ≡ mapping_bytes sheet.now (font_at n) }
-{
-    let o = font_offset(n);
-    part(sheet, u32_at(sheet, o + 8), u16_at(sheet, o + 12))
-}
+impl<'a> FontRecord<'a> {
+    // The font's numbers, within their limits.
+    #[tactic(auto, using(crate::proofs::Readings::font_limits_lem), unfolding(crate::specs::Records::mono_font))]
+    pub fn metrics(self) -> Metrics
+        ensures { result.font ≡ mono_font self.entry.sheet.bytes.now (font_at self.entry.number) }
+    {
+        let bytes = self.sheet.bytes;
+        let o = font_offset(self.number);
+        Metrics::new(MonoFont {
+            atlas: Atlas {
+                width: u16_at(bytes, o + 16) as u32,
+                cell_size: Size {
+                    width: u8_at(bytes, o + 18),
+                    height: u8_at(bytes, o + 19),
+                },
+            },
+            replacement_index: u16_at(bytes, o + 14) as u32,
+            character_spacing: u8_at(bytes, o + 20),
+            baseline: u8_at(bytes, o + 21),
+            strikethrough: DecorationDimensions {
+                offset: u8_at(bytes, o + 22),
+                height: u8_at(bytes, o + 23),
+            },
+            underline: DecorationDimensions {
+                offset: u8_at(bytes, o + 24),
+                height: u8_at(bytes, o + 25),
+            },
+        })
+    }
 
-// The number of item `n`'s font.
-pub fn font_number(sheet: &[u8], n: u32) -> u32
-    requires { ItemListed sheet.now n }
-    ensures { result ≡ font_number sheet.now (item_at sheet.now n) }
-{
-    let o = item_offset(sheet, n);
-    u8_at(sheet, o + 12)
-}
+    // The bytes of the font's atlas.
+    pub fn atlas(self) -> &'a [u8]
+        ensures { result.now ≡ atlas_bytes self.entry.sheet.bytes.now (font_at self.entry.number) }
+    {
+        let bytes = self.sheet.bytes;
+        let o = font_offset(self.number);
+        part(bytes, u32_at(bytes, o), u32_at(bytes, o + 4))
+    }
 
-// The bytes of item `n`'s text.
-pub fn text_bytes(sheet: &[u8], n: u32) -> &[u8]
-    requires { ItemListed sheet.now n }
-    ensures { result.now ≡ text_bytes sheet.now (item_at sheet.now n) }
-{
-    let o = item_offset(sheet, n);
-    part(sheet, u32_at(sheet, o + 4), u16_at(sheet, o + 10))
+    // The bytes of the font's mapping.
+    pub fn mapping(self) -> &'a [u8]
+        ensures { result.now ≡ mapping_bytes self.entry.sheet.bytes.now (font_at self.entry.number) }
+    {
+        let bytes = self.sheet.bytes;
+        let o = font_offset(self.number);
+        part(bytes, u32_at(bytes, o + 8), u16_at(bytes, o + 12))
+    }
+
+    // The font: its numbers, its atlas and its mapping.
+    #[tactic(auto, unfolding(crate::specs::Records::font))]
+    pub fn font(self) -> Font<'a>
+        ensures { lent result ≡ font self.entry.sheet.bytes.now self.entry.number }
+    {
+        Font::new(self.metrics(), self.atlas(), self.mapping())
+    }
 }
 
 // A signed number of 2 bytes as a coordinate.
+#[tactic(auto, unfolding(sheet::specs::Fields::coordinate))]
 fn coordinate(n: u16) -> u32
     ensures { (result ≡ coordinate n) × (result ≤ 4_194_304) }
 {
-    let wide = n as u32;
-    if wide < 32768 {
-        return ORIGIN + wide;
+    let near = ORIGIN + u32::from(n);
+    if n < 32768 {
+        return near;
     }
-    ORIGIN + wide - 65536
+    near - 65536
 }
 
-// Item `n`'s x and y.
-pub fn position(sheet: &[u8], n: u32) -> Point
-    requires { ItemListed sheet.now n }
-    ensures value { result ≡ (item_of sheet.now (item_at sheet.now n)).position }
-    ensures x_bound { (result.x ≤ 4_194_304) × (result.y ≤ 4_194_304) }
-{
-    let o = item_offset(sheet, n);
-    Point {
-        x: coordinate(u16_at(sheet, o) as u16),
-        y: coordinate(u16_at(sheet, o + 2) as u16),
+impl<'a> ItemRecord<'a> {
+    // Where the item's record stands.
+    fn offset(self) -> usize
+        ensures { result ≡ item_at self.entry.sheet.bytes.now self.entry.number }
+    {
+        self.sheet.header().item_offset(self.number)
     }
-}
 
-fn optional_grey(mode: u8, grey: u8) -> OptionalGrey
-    ensures { result ≡ optional_grey mode grey }
-{
-    if mode == 0 {
-        return OptionalGrey::Unset;
+    // The font that the item is set in.
+    pub fn font_record(self) -> FontRecord<'a>
+        ensures same_sheet { result.sheet.bytes.now ≡ self.entry.sheet.bytes.now }
+        ensures number_value { result.number ≡ font_number self.entry.sheet.bytes.now (item_at self.entry.sheet.bytes.now self.entry.number) }
+    {
+        let number = u8_at(self.sheet.bytes, self.offset() + 12);
+        FontRecord {
+            sheet: self.sheet,
+            number,
+        }
     }
-    OptionalGrey::Set(grey)
-}
 
-fn decoration_color(mode: u8, grey: u8) -> DecorationColor
-    ensures { result ≡ decoration_color mode grey }
-{
-    if mode == 0 {
-        return DecorationColor::None;
+    // The bytes of the item's text.
+    pub fn text(self) -> &'a [u8]
+        ensures { result.now ≡ text_bytes self.entry.sheet.bytes.now (item_at self.entry.sheet.bytes.now self.entry.number) }
+    {
+        let bytes = self.sheet.bytes;
+        let o = self.offset();
+        part(bytes, u32_at(bytes, o + 4), u16_at(bytes, o + 10))
     }
-    if mode == 1 {
-        return DecorationColor::TextColor;
-    }
-    DecorationColor::Custom(grey)
-}
 
-fn alignment(code: u8) -> Alignment
-    ensures { result ≡ alignment code }
-{
-    if code == 0 {
-        return Alignment::Left;
+    // The item's x and y.
+    #[tactic(auto, unfolding(crate::specs::Records::item_of))]
+    pub fn position(self) -> Point
+        ensures value { result ≡ (item_of self.entry.sheet.bytes.now (item_at self.entry.sheet.bytes.now self.entry.number)).position }
+        ensures x_bound { (result.x ≤ 4_194_304) × (result.y ≤ 4_194_304) }
+    {
+        let bytes = self.sheet.bytes;
+        let o = self.offset();
+        Point {
+            x: coordinate(u16_at(bytes, o) as u16),
+            y: coordinate(u16_at(bytes, o + 2) as u16),
+        }
     }
-    if code == 1 {
-        return Alignment::Center;
-    }
-    Alignment::Right
-}
 
-fn baseline(code: u8) -> Baseline
-    ensures { result ≡ baseline code }
-{
-    if code == 0 {
-        return Baseline::Top;
+    // The item's colours.
+    #[tactic(auto, using(crate::proofs::Readings::style_is))]
+    pub fn mono_text_style(self) -> MonoTextStyle
+        ensures { result ≡ mono_text_style self.entry.sheet.bytes.now (item_at self.entry.sheet.bytes.now self.entry.number) }
+    {
+        let from = self.offset() + 13;
+        style_of(&self.sheet.bytes[from..from + 8])
     }
-    if code == 1 {
-        return Baseline::Bottom;
-    }
-    if code == 2 {
-        return Baseline::Middle;
-    }
-    Baseline::Alphabetic
-}
 
-fn line_height(kind: u8, value: u32) -> LineHeight
-    ensures { result ≡ line_height kind value }
-{
-    if kind == 0 {
-        return LineHeight::Pixels(value);
+    // How the item's lines are set.
+    #[tactic(auto, unfolding(crate::specs::Records::text_style))]
+    pub fn text_style(self) -> TextStyle
+        ensures { result ≡ text_style self.entry.sheet.bytes.now (item_at self.entry.sheet.bytes.now self.entry.number) }
+    {
+        let bytes = self.sheet.bytes;
+        let o = self.offset();
+        TextStyle {
+            alignment: alignment(bytes[o + 21]),
+            baseline: baseline(bytes[o + 22]),
+            line_height: line_height(bytes[o + 23], u16_at(bytes, o + 24) as u32),
+        }
     }
-    LineHeight::Percent(value)
-}
 
-// The colours that the 8 bytes of a style give.
-pub fn style_of(bytes: &[u8]) -> MonoTextStyle
-    requires { length bytes.now ≡ 8 }
-    ensures { result ≡ style_of bytes.now }
-{
-    MonoTextStyle {
-        text_color: optional_grey(bytes[0], bytes[1]),
-        background_color: optional_grey(bytes[2], bytes[3]),
-        underline_color: decoration_color(bytes[4], bytes[5]),
-        strikethrough_color: decoration_color(bytes[6], bytes[7]),
+    // The item as it is measured.
+    #[tactic(auto, using(crate::proofs::Readings::item_metrics, crate::proofs::Readings::item_made))]
+    pub fn layout(self) -> TextLayout<'a>
+        ensures font_value { result.metrics.font ≡ (item_font self.entry.sheet.bytes.now self.entry.number).mono }
+        ensures value { lent_text result ≡ item self.entry.sheet.bytes.now self.entry.number }
+    {
+        TextLayout {
+            text: self.text(),
+            metrics: self.font_record().metrics(),
+            position: self.position(),
+            character_style: self.mono_text_style(),
+            text_style: self.text_style(),
+        }
     }
-}
 
-// Item `n`'s colours.
-pub fn mono_text_style(sheet: &[u8], n: u32) -> MonoTextStyle
-    requires { ItemListed sheet.now n }
-    ensures { result ≡ mono_text_style sheet.now (item_at sheet.now n) }
-{
-    let from = item_offset(sheet, n) + 13;
-    let to = from + 8;
-    style_of(&sheet[from..to])
-}
-
-// How item `n`'s lines are set.
-pub fn text_style(sheet: &[u8], n: u32) -> TextStyle
-    requires { ItemListed sheet.now n }
-    ensures { result ≡ text_style sheet.now (item_at sheet.now n) }
-{
-    let o = item_offset(sheet, n);
-    TextStyle {
-        alignment: alignment(sheet[o + 21]),
-        baseline: baseline(sheet[o + 22]),
-        line_height: line_height(sheet[o + 23], u16_at(sheet, o + 24) as u32),
+    // The item as it is drawn.
+    #[tactic(auto, using(crate::proofs::Readings::item_font_made))]
+    pub fn to_text(self) -> Text<'a>
+        ensures font_value { lent_font result ≡ item_font self.entry.sheet.bytes.now self.entry.number }
+        ensures value { lent_text result.layout ≡ item self.entry.sheet.bytes.now self.entry.number }
+    {
+        let font = self.font_record();
+        Text {
+            layout: self.layout(),
+            atlas: font.atlas(),
+            mapping: font.mapping(),
+        }
     }
 }
