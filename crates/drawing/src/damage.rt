@@ -9,11 +9,10 @@ ghost use Rattle.drawing.specs.Drawing.{item_ink, cut_to_frame, damage};
 ghost use Rattle.drawing.specs.Changes.{changed_ink};
 
 use super::frame_of;
-use super::ink::item_ink;
 use super::items::item_at;
-use geometry::{ORIGIN, Rectangle};
+use geometry::{ORIGIN, Point, Rectangle};
 use line::MonoTextStyle;
-use text::Source;
+use text::TextLayout;
 
 // What two boxes repaint: the smallest rectangle that holds those that are not empty, cut to the frame.
 fn damage_of(sheet: &[u8], before: Rectangle, after: Rectangle) -> Rectangle
@@ -37,19 +36,21 @@ fn damage_of(sheet: &[u8], before: Rectangle, after: Rectangle) -> Rectangle
 }
 
 // What an item repaints that keeps its text, in a style at a place.
-fn change_damage(sheet: &[u8], n: u32, style: MonoTextStyle, x: u32, y: u32) -> Rectangle
+fn change_damage(sheet: &[u8], n: u32, style: MonoTextStyle, position: Point) -> Rectangle
     requires item_listed { ItemListed sheet.now n }
-    requires x_bound { x ≤ 4_194_304 }
-    requires y_bound { y ≤ 4_194_304 }
-    ensures { result ≡ cut_to_frame sheet.now (join (item_ink sheet.now n) (changed_ink sheet.now n style x y)) }
+    requires x_bound { position.x ≤ 4_194_304 }
+    requires y_bound { position.y ≤ 4_194_304 }
+    ensures { result ≡ cut_to_frame sheet.now (join (item_ink sheet.now n) (changed_ink sheet.now n style position.x position.y)) }
 {
     let item = item_at(sheet, n);
-    let text = records::text_bytes(sheet, n);
-    let font = item.font;
-    let text_style = item.text_style;
-    let before = item_ink(sheet, n);
-    let after = text::ink_box(text, font, style, text_style, x, y);
-    damage_of(sheet, before, after)
+    let changed = TextLayout {
+        text: item.text,
+        metrics: item.metrics,
+        position,
+        character_style: style,
+        text_style: item.text_style,
+    };
+    damage_of(sheet, item.ink_box(), changed.ink_box())
 }
 
 // The damage rectangle of a new text: the lines before are parts of the stored text, those after of the new one.
@@ -58,22 +59,8 @@ pub fn text_damage<'a>(sheet: &'a [u8], n: u32, new: &'a [u8]) -> Rectangle
     ensures { result ≡ damage sheet.now (edited sheet.now (new_text n new.now)) n }
 {
     let item = item_at(sheet, n);
-    let stored = records::text_bytes(sheet, n);
-    let font = item.font;
-    let style = item.character_style;
-    let text_style = item.text_style;
-    let p = item.position;
-    let before = text::ink_box_of(
-        stored,
-        new,
-        Source::Stored,
-        font,
-        style,
-        text_style,
-        p.x,
-        p.y,
-    );
-    let after = text::ink_box_of(stored, new, Source::New, font, style, text_style, p.x, p.y);
+    let before = item.ink_box();
+    let after = item.ink_box_of(Some(new));
     damage_of(sheet, before, after)
 }
 
@@ -84,9 +71,8 @@ pub fn place_damage(sheet: &[u8], n: u32, x: i32, y: i32) -> Rectangle
 {
     let left = edits::biased(x);
     let top = edits::biased(y);
-    let item = item_at(sheet, n);
-    let style = item.character_style;
-    change_damage(sheet, n, style, left, top)
+    let style = records::mono_text_style(sheet, n);
+    change_damage(sheet, n, style, Point { x: left, y: top })
 }
 
 // The damage rectangle of a new style.
@@ -94,8 +80,7 @@ pub fn style_damage(sheet: &[u8], n: u32, new: &[u8]) -> Rectangle
     requires { EditAllowed sheet.now (new_style n new.now) }
     ensures { result ≡ damage sheet.now (edited sheet.now (new_style n new.now)) n }
 {
-    let item = item_at(sheet, n);
-    let p = item.position;
+    let p = records::position(sheet, n);
     let style = records::style_of(new);
-    change_damage(sheet, n, style, p.x, p.y)
+    change_damage(sheet, n, style, p)
 }

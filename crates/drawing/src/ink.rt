@@ -5,9 +5,8 @@ ghost use Rattle.geometry.specs.Canvas.{EndsFit};
 ghost use Rattle.sheet.specs.Requires.{ItemListed};
 ghost use Rattle.drawing.specs.Drawing.{item_ink};
 
-use super::items::item_at;
+use super::items::{item_at, metrics_at};
 use geometry::Rectangle;
-use geometry::numbers::minus;
 
 // The ink box of an item.
 pub fn item_ink(sheet: &[u8], n: u32) -> Rectangle
@@ -15,13 +14,7 @@ pub fn item_ink(sheet: &[u8], n: u32) -> Rectangle
     ensures value { result ≡ item_ink sheet.now n }
     ensures ends_fit { EndsFit result }
 {
-    let item = item_at(sheet, n);
-    let text = records::text_bytes(sheet, n);
-    let font = item.font;
-    let style = item.character_style;
-    let text_style = item.text_style;
-    let p = item.position;
-    text::ink_box(text, font, style, text_style, p.x, p.y)
+    item_at(sheet, n).ink_box()
 }
 
 // Whether an item starts below a clip, so that the clip does not meet its ink box; the text is not read.
@@ -29,11 +22,9 @@ fn starts_below(sheet: &[u8], clip: Rectangle, n: u32) -> bool
     requires { ItemListed sheet.now n }
     ensures { result ≡ true → is_empty (intersection (item_ink sheet.now n) clip) ≡ true }
 {
-    let font_number = records::font_number(sheet, n);
-    let font = records::font_at(sheet, font_number);
+    let metrics = metrics_at(sheet, n);
     let p = records::position(sheet, n);
-    let text_style = records::text_style(sheet, n);
-    text::starts_below(clip, font, text_style, p.y)
+    records::text_style(sheet, n).starts_below(metrics, p.y, clip)
 }
 
 // Whether an item's place, heights, style and bytes tell that the clip does not meet its ink box; its characters are not read.
@@ -41,13 +32,7 @@ fn is_apart(sheet: &[u8], clip: Rectangle, n: u32) -> bool
     requires { ItemListed sheet.now n }
     ensures { result ≡ true → is_empty (intersection (item_ink sheet.now n) clip) ≡ true }
 {
-    let item = item_at(sheet, n);
-    let text = records::text_bytes(sheet, n);
-    let font = item.font;
-    let style = item.character_style;
-    let text_style = item.text_style;
-    let p = item.position;
-    text::is_apart(text, font, style, text_style, p.x, p.y, clip)
+    item_at(sheet, n).is_apart(clip)
 }
 
 // Whether the clip does not meet an item's ink box; "no" may be said of one that it does not meet. The box is found only where the item's rows
@@ -68,7 +53,7 @@ pub fn is_missed(sheet: &[u8], clip: Rectangle, whole: bool, n: u32) -> bool
     }
     let p = records::position(sheet, n);
     if clip.left <= p.x {
-        if minus(p.x, clip.left) < clip.width {
+        if p.x - clip.left < clip.width {
             return false;
         }
     }

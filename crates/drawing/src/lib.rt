@@ -2,8 +2,9 @@
 #![tactic(auto)]
 
 ghost use Rattle.std.specs.Prelude.{◌≡◌, cond, ◌≤◌, length};
-ghost use Rattle.geometry.specs.Layer.{paint, paint_in, frame_of};
+ghost use Rattle.geometry.specs.Layer.{paint, frame_of};
 ghost use Rattle.geometry.specs.Canvas.{Canvas};
+ghost use Rattle.geometry.specs.Painted.{Painted};
 ghost use Rattle.text.specs.Text.{next, replaced, bounding_box};
 ghost use Rattle.sheet.specs.Fields.{frame_width, frame_height};
 ghost use Rattle.sheet.specs.Accepted.{Accepted};
@@ -12,12 +13,11 @@ ghost use Rattle.records.specs.Records.{item, item_font};
 ghost use Rattle.drawing.specs.Drawing.{order, item_layer, items_layer, fresh_drawing, whitespace_layer, whitespace_next, repainted};
 ghost use Rattle.drawing.specs.Frames.{target_of, Framed};
 
-use geometry::numbers::minus;
-use geometry::{DrawTarget, ORIGIN, Point, Rectangle};
+use geometry::{DrawTarget, Frame, ORIGIN, Point, Rectangle};
 use ink::is_missed;
 use items::item_at;
 use sheet::fields::{frame_height, frame_width, item_count};
-use text::{DrawnText, TextLayout};
+use text::{DrawnText, Text};
 
 pub mod damage;
 mod ink;
@@ -50,55 +50,40 @@ fn target_of(sheet: &[u8], clip: Rectangle) -> DrawTarget
     }
 }
 
-// Draws an item in a clip; replies its next position and how many characters are not listed, if `replies`.
-fn draw_item_in(sheet: &[u8], frame: &mut [u8], clip: Rectangle, replies: bool, n: u32) -> DrawnText
-    requires item_listed { ItemListed sheet.now n }
-    requires canvas { Canvas (target_of sheet.now clip) (length frame.old) }
-    ensures frame_after { frame.new ≡ paint_in (frame_width sheet.now) clip (item_layer sheet.now n) frame.old }
+// Draws an item in a frame's clip; replies its next position and how many characters are not listed, if `replies`.
+fn draw_item_in(sheet: &[u8], frame: &mut Frame, n: u32, replies: bool) -> DrawnText
+    requires { ItemListed sheet.now n }
+    ensures painted { Painted frame.old (item_layer sheet.now n) frame.new }
     ensures next_value { result.next ≡ cond replies (next (item_font sheet.now n).mono (item sheet.now n)) (item sheet.now n).position }
     ensures replaced_value { result.replaced ≡ cond replies (replaced (item_font sheet.now n) (item sheet.now n)) 0 }
 {
-    let target = target_of(sheet, clip);
-    let item = item_at(sheet, n);
-    let k = item.font_number;
-    let atlas = records::atlas_bytes(sheet, k);
-    let mapping = records::mapping_bytes(sheet, k);
-    let text = records::text_bytes(sheet, n);
-    let font = item.font;
-    let position = item.position;
-    let character_style = item.character_style;
-    let text_style = item.text_style;
-    let layout = TextLayout {
-        position,
-        character_style,
-        text_style,
+    let k = records::font_number(sheet, n);
+    let text = Text {
+        layout: item_at(sheet, n),
+        atlas: records::atlas_bytes(sheet, k),
+        mapping: records::mapping_bytes(sheet, k),
     };
-    text::draw(frame, target, atlas, mapping, text, font, layout, replies)
+    text.draw(frame, replies)
 }
 
-// Draws an item in a clip; one whose ink box the clip does not meet is not drawn.
-fn draw_met_item(sheet: &[u8], frame: &mut [u8], clip: Rectangle, whole: bool, n: u32)
-    requires item_listed { ItemListed sheet.now n }
-    requires canvas { Canvas (target_of sheet.now clip) (length frame.old) }
-    ensures { frame.new ≡ paint_in (frame_width sheet.now) clip (item_layer sheet.now n) frame.old }
+// Draws an item in a frame's clip; one whose ink box the clip does not meet is not drawn.
+fn draw_met_item(sheet: &[u8], frame: &mut Frame, whole: bool, n: u32)
+    requires { ItemListed sheet.now n }
+    ensures { Painted frame.old (item_layer sheet.now n) frame.new }
 {
-    if is_missed(sheet, clip, whole, n) {
+    if is_missed(sheet, frame.target.clip_area, whole, n) {
         return;
     }
-    draw_item_in(sheet, frame, clip, false, n);
+    draw_item_in(sheet, frame, n, false);
 }
 
-// Draws the items in a clip, in order; `whole` says that the clip is the frame, which saves the ink boxes.
-fn draw_items(sheet: &[u8], frame: &mut [u8], clip: Rectangle, whole: bool)
-    requires accepted { Accepted sheet.now }
-    requires canvas { Canvas (target_of sheet.now clip) (length frame.old) }
-    ensures { frame.new ≡ paint_in (frame_width sheet.now) clip (items_layer sheet.now (order sheet.now)) frame.old }
+// Draws the items in a frame's clip, in order; `whole` says that the clip is the frame, which saves the ink boxes.
+fn draw_items(sheet: &[u8], frame: &mut Frame, whole: bool)
+    requires { Accepted sheet.now }
+    ensures { Painted frame.old (items_layer sheet.now (order sheet.now)) frame.new }
 {
-    let items = item_count(sheet);
-    let mut n: u32 = 0;
-    while n < items {
-        draw_met_item(sheet, frame, clip, whole, n);
-        n += 1;
+    for n in 0..item_count(sheet) {
+        draw_met_item(sheet, frame, whole, n);
     }
 }
 
@@ -109,10 +94,11 @@ pub fn repaint(sheet: &[u8], frame: &mut [u8], area: Rectangle)
     ensures { frame.new ≡ repainted sheet.now area frame.old }
 {
     let target = target_of(sheet, area);
-    let grey = sheet::fields::paper(sheet);
-    geometry::fill_solid(frame, target, area, grey);
     let whole = (area.width as usize == target.width) & (area.height as usize == target.height);
-    draw_items(sheet, frame, area, whole);
+    let mut frame = Frame::new(frame, target);
+    let grey = sheet::fields::paper(sheet);
+    frame.fill_solid(area, grey);
+    draw_items(sheet, &mut frame, whole);
 }
 
 // Draws the page on a frame of the sheet's size.
@@ -133,27 +119,27 @@ pub fn draw_item(sheet: &[u8], frame: &mut [u8], n: u32) -> DrawnText
     ensures replaced_value { result.replaced ≡ replaced (item_font sheet.now n) (item sheet.now n) }
 {
     let clip = frame_of(sheet);
-    draw_item_in(sheet, frame, clip, true, n)
+    let mut frame = Frame::new(frame, target_of(sheet, clip));
+    draw_item_in(sheet, &mut frame, n, true)
 }
 
-// Draws whitespace of a width at an item's place in a clip; gives the next position.
-fn draw_whitespace_in(sheet: &[u8], frame: &mut [u8], clip: Rectangle, n: u32, width: u32) -> Point
+// Draws whitespace of a width at an item's place in a frame's clip; gives the next position.
+fn draw_whitespace_in(sheet: &[u8], frame: &mut Frame, n: u32, width: u32) -> Point
     requires item_listed { ItemListed sheet.now n }
-    requires canvas { Canvas (target_of sheet.now clip) (length frame.old) }
     requires width_bound { width ≤ 65_535 }
-    ensures frame_after { frame.new ≡ paint_in (frame_width sheet.now) clip (whitespace_layer (item_font sheet.now n).mono (item sheet.now n) width) frame.old }
+    ensures painted { Painted frame.old (whitespace_layer (item_font sheet.now n).mono (item sheet.now n) width) frame.new }
     ensures value { result ≡ whitespace_next (item sheet.now n) width }
 {
-    let target = target_of(sheet, clip);
     let item = item_at(sheet, n);
-    let font = item.font;
-    let style = item.character_style;
-    let text_style = item.text_style;
-    let baseline = text_style.baseline;
     let p = item.position;
-    let top = minus(p.y, line::baseline_offset(font, baseline));
-    let corner = Point { x: p.x, y: top };
-    let x = line::draw_whitespace(frame, target, font, style, corner, width);
+    let offset = item.metrics.baseline_offset(item.text_style.baseline);
+    let corner = Point {
+        x: p.x,
+        y: p.y.saturating_sub(offset),
+    };
+    let x = item
+        .metrics
+        .draw_whitespace(frame, item.character_style, corner, width);
     Point { x, y: p.y }
 }
 
@@ -166,7 +152,8 @@ pub fn draw_whitespace(sheet: &[u8], frame: &mut [u8], n: u32, width: u32) -> Po
     ensures value { result ≡ whitespace_next (item sheet.now n) width }
 {
     let clip = frame_of(sheet);
-    draw_whitespace_in(sheet, frame, clip, n, width)
+    let mut frame = Frame::new(frame, target_of(sheet, clip));
+    draw_whitespace_in(sheet, &mut frame, n, width)
 }
 
 // The measured box of an item.
@@ -174,11 +161,5 @@ pub fn bounding_box(sheet: &[u8], n: u32) -> Rectangle
     requires { ItemListed sheet.now n }
     ensures { result ≡ bounding_box (item_font sheet.now n).mono (item sheet.now n) }
 {
-    let item = item_at(sheet, n);
-    let text = records::text_bytes(sheet, n);
-    let font = item.font;
-    let style = item.character_style;
-    let text_style = item.text_style;
-    let p = item.position;
-    text::bounding_box(text, font, style, text_style, p.x, p.y)
+    item_at(sheet, n).bounding_box()
 }

@@ -1,28 +1,22 @@
 -- What is read is the item and its font, so that what the text paints is what the item paints.
 use Rattle.records.proofs.Readings.{font_listed}
-use Rattle.drawing.proofs.Readings.{mapping_limit, item_limits_lem, item_painted, item-next, item-replaced, canvas_read}
+use Rattle.drawing.proofs.Readings.{mapping_limit, item_painted, item-next, item-replaced}
 use Rattle.drawing.proofs.draw_item_in.Goals as goal
 
-pub atlas_bytes-atlas-requires : goal.atlas_bytes-atlas-requires
-atlas_bytes-atlas-requires c = search font_listed
+pub atlas_bytes-requires : goal.atlas_bytes-requires
+atlas_bytes-requires c = search font_listed
 
-pub mapping_bytes-mapping-requires : goal.mapping_bytes-mapping-requires
-mapping_bytes-mapping-requires c = search font_listed
+pub mapping_bytes-requires : goal.mapping_bytes-requires
+mapping_bytes-requires c = search font_listed
 
-pub draw-requires-clause-canvas : goal.draw-requires-clause-canvas
-draw-requires-clause-canvas c = search canvas_read
+pub invariant_of-text : goal.invariant_of-text
+invariant_of-text c = record { within_limit = search (mapping_limit, font_listed) }
 
-pub draw-requires-clause-within_limit : goal.draw-requires-clause-within_limit
-draw-requires-clause-within_limit c = search (mapping_limit, font_listed)
-
-pub draw-requires-clause-text_limits : goal.draw-requires-clause-text_limits
-draw-requires-clause-text_limits c = search item_limits_lem
-
-pub returns-clause-frame_after : goal.returns-clause-frame_after
-returns-clause-frame_after c = search item_painted
+pub returns-clause-painted : goal.returns-clause-painted
+returns-clause-painted c = item_painted _ _ _ c.item_at.ensures _ _ _ c.font_number-k.ensures c.atlas_bytes.ensures c.mapping_bytes.ensures _ _ c.draw.ensures.painted
 
 pub returns-clause-next_value : goal.returns-clause-next_value
-returns-clause-next_value c = search item-next
+returns-clause-next_value c = item-next _ _ _ c.item_at.ensures _ _ c.draw.ensures.next_value
 
 pub returns-clause-replaced_value : goal.returns-clause-replaced_value
-returns-clause-replaced_value c = search item-replaced
+returns-clause-replaced_value c = item-replaced _ _ _ c.item_at.ensures _ _ _ c.font_number-k.ensures c.atlas_bytes.ensures c.mapping_bytes.ensures _ _ c.draw.ensures.replaced_value

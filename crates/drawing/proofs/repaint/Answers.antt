@@ -1,10 +1,12 @@
 -- Paper in the area, then the items in it, is the page in it.
-use Rattle.drawing.proofs.Painting.{page_painted}
-use Rattle.drawing.proofs.Readings.{canvas_read}
+use native.Mathlib.Omega.{arith}
+use Rattle.drawing.proofs.Painting.{canvas_read, page_drawn}
 use Rattle.drawing.proofs.repaint.Goals as goal
 
-pub fill_solid-requires : goal.fill_solid-requires
-fill_solid-requires c = search canvas_read
+pub new-frame-requires : goal.new-frame-requires
+new-frame-requires c = search canvas_read
 
 pub returns : goal.returns
-returns c = search page_painted
+returns c =
+    let p = page_drawn _ _ _ _ _ _ _ _ c.target_of-target.ensures c.paper-grey.ensures c.new-frame.ensures.target_value c.new-frame.ensures.greys_value c.fill_solid.ensures c.draw_items.ensures in
+    grind arith

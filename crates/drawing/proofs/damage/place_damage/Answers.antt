@@ -9,8 +9,8 @@ biased-left-requires c = search x_in_range
 pub biased-top-requires : goal.biased-top-requires
 biased-top-requires c = search y_in_range
 
-pub item_at-item-requires : goal.item_at-item-requires
-item_at-item-requires c = search edit_listed
+pub mono_text_style-style-requires : goal.mono_text_style-style-requires
+mono_text_style-style-requires c = search edit_listed
 
 pub change_damage-requires-clause-item_listed : goal.change_damage-requires-clause-item_listed
 change_damage-requires-clause-item_listed c = search edit_listed

@@ -2,8 +2,8 @@
 use Rattle.drawing.proofs.Changes.{edit_listed, style_eight, style_damage}
 use Rattle.drawing.proofs.damage.style_damage.Goals as goal
 
-pub item_at-item-requires : goal.item_at-item-requires
-item_at-item-requires c = search edit_listed
+pub position-p-requires : goal.position-p-requires
+position-p-requires c = search edit_listed
 
 pub style_of-style-requires : goal.style_of-style-requires
 style_of-style-requires c = search style_eight

@@ -12,8 +12,8 @@ returns-then-whole c = λ e. absurd (false≢true e)
 pub returns-then-is_apart : goal.returns-then-is_apart
 returns-then-is_apart c = search c.is_apart.ensures
 
-pub returns-then-minus-clip : goal.returns-then-minus-clip
-returns-then-minus-clip c = λ e. absurd (false≢true e)
+pub returns-then-p-clip : goal.returns-then-p-clip
+returns-then-p-clip c = λ e. absurd (false≢true e)
 
 pub returns : goal.returns
 returns c = search missed

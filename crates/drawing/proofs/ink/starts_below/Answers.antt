@@ -1,10 +1,6 @@
 -- What is read is the item's font, place and setting, and no text that starts below the clip has ink in it.
-use Rattle.records.proofs.Readings.{font_listed}
-use Rattle.drawing.proofs.Readings.{layout_below}
+use Rattle.drawing.proofs.Readings.{below_apart}
 use Rattle.drawing.proofs.ink.starts_below.Goals as goal
 
-pub font_at-font-requires : goal.font_at-font-requires
-font_at-font-requires c = search font_listed
-
 pub returns : goal.returns
-returns c = search layout_below
+returns c = below_apart _ _ _ _ _ _ _ c.metrics_at-metrics.ensures c.position-p.ensures.value c.text_style.ensures c.starts_below.ensures
