@@ -71,7 +71,7 @@ fn bits_at(bytes: &[u8], stride: usize, x: usize, y: usize) -> u32
 }
 
 // What a pixel becomes: the text's grey where the atlas's pixel is on and the background's where it is off, if set.
-// Each colour has its `match`: with `unwrap_or` cells that are a multiple of 8 wide take 1.4 times as long to draw.
+// Each colour has its `match`: with `unwrap_or` cells that are a multiple of 8 wide take 1.4 to 1.7 times as long to draw.
 fn blend(on: bool, text: Option<u8>, background: Option<u8>, grey: u8) -> u8
     ensures { result ≡ blend on text background grey }
 {
