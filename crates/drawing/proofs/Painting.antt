@@ -78,16 +78,19 @@ module _ (b : List ℕ) where
   unfolding order
   items_start first = record { whole = λ last p. (let e : item_count b - 0 ≡ item_count b = omega arith in rw e at p) }
 
-  module _ (first frame : Frame) (n items : ℕ) (d : ItemsDrawn first n frame) (c : items ≡ item_count b) where
+  module _ (first frame : Frame) (n items : ℕ) (d : ItemsDrawn first n frame) (h : List ℕ) (same : h ≡ b) (e : items ≡ item_count h) where
+    c : items ≡ item_count b
+    c = rw same at e
+
     pub items_step : (next : Frame) → n < items → Painted frame (item_layer b n) next → ItemsDrawn first (n + 1) next
     unfolding items_layer numbers_from
-    items_step next h p = record { whole = λ last q. d.whole last (let s : item_count b - n ≡ suc (item_count b - (n + 1)) = omega arith in rw (s, ← add-one n) (painted_then frame (item_layer b n) (left (n + 1)) next last p q)) }
+    items_step next l p = record { whole = λ last q. d.whole last (let s : item_count b - n ≡ suc (item_count b - (n + 1)) = omega (arith, c) in rw (s, ← add-one n) (painted_then frame (item_layer b n) (left (n + 1)) next last p q)) }
 
     pub items_end : items ≤ n → Painted first (items_layer b (order b)) frame
     unfolding items_layer numbers_from
-    items_end h =
+    items_end l =
         d.whole frame
-        (let z : item_count b - n ≡ 0 = omega arith in
+        (let z : item_count b - n ≡ 0 = omega (arith, c) in
         rw z (painted_none frame (items_layer b []) (sym (paint_none frame.target.width _ frame.greys.now (within_none frame.target.clip_area (items_layer b []) (λ c r grey. refl))))))
 
   -- an item whose ink box shares no pixel with a frame's clip changes nothing there

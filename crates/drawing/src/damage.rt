@@ -1,25 +1,25 @@
-// The damage rectangle of each edit, found before the sheet is changed.
-ghost use Rattle.std.specs.Prelude.{◌≡◌, ◌≤◌};
+// The damage rectangle of an edit, found before the sheet is changed.
+ghost use Rattle.std.specs.Prelude.{◌≡◌};
 ghost use Rattle.geometry.specs.Rectangle.{join};
 ghost use Rattle.geometry.specs.Canvas.{EndsFit};
-ghost use Rattle.sheet.specs.Accepted.{Accepted};
-ghost use Rattle.sheet.specs.Requires.{ItemListed, EditAllowed};
-ghost use Rattle.sheet.specs.Edits.{new_text, new_place, new_style, edited};
+ghost use Rattle.sheet.specs.OfItem.{of_item};
+ghost use Rattle.sheet.specs.Requires.{EditAllowed};
+ghost use Rattle.sheet.specs.Edits.{edited};
 ghost use Rattle.drawing.specs.Drawing.{item_ink, cut_to_frame, damage};
-ghost use Rattle.drawing.specs.Changes.{changed_ink};
 
 use super::frame_of;
-use super::items::item_at;
 use geometry::{ORIGIN, Point, Rectangle};
-use line::MonoTextStyle;
+use records::ItemRecord;
+use sheet::Sheet;
+use sheet::edit::Edit;
 use text::TextLayout;
 
 // What two boxes repaint: the smallest rectangle that holds those that are not empty, cut to the frame.
-fn damage_of(sheet: &[u8], before: Rectangle, after: Rectangle) -> Rectangle
-    requires accepted { Accepted sheet.now }
+#[tactic(auto, using(crate::proofs::Changes::cut_none, crate::proofs::Changes::cut_some))]
+fn damage_of(sheet: Sheet<'_>, before: Rectangle, after: Rectangle) -> Rectangle
     requires ends_fit { EndsFit before }
     requires ends_fit_2 { EndsFit after }
-    ensures { result ≡ cut_to_frame sheet.now (join before after) }
+    ensures { result ≡ cut_to_frame sheet.entry.bytes.now (join before after) }
 {
     let page = frame_of(sheet);
     let both = before.join(after);
@@ -35,52 +35,48 @@ fn damage_of(sheet: &[u8], before: Rectangle, after: Rectangle) -> Rectangle
     area
 }
 
-// What an item repaints that keeps its text, in a style at a place.
-fn change_damage(sheet: &[u8], n: u32, style: MonoTextStyle, position: Point) -> Rectangle
-    requires item_listed { ItemListed sheet.now n }
-    requires x_bound { position.x ≤ 4_194_304 }
-    requires y_bound { position.y ≤ 4_194_304 }
-    ensures { result ≡ cut_to_frame sheet.now (join (item_ink sheet.now n) (changed_ink sheet.now n style position.x position.y)) }
+// The ink box of an item after an edit: the lines of a new text are parts of it, those of the stored text are parts of the sheet.
+fn ink_after<'a>(item: ItemRecord<'a>, edit: Edit<'a>) -> Rectangle
+    requires { EditAllowed item.sheet.bytes.now (of_item item.number edit) }
+    ensures value { result ≡ item_ink (edited item.entry.sheet.bytes.now (of_item item.entry.number edit.entry)) item.entry.number }
+    ensures ends_fit { EndsFit result }
 {
-    let item = item_at(sheet, n);
-    let changed = TextLayout {
-        text: item.text,
-        metrics: item.metrics,
-        position,
-        character_style: style,
-        text_style: item.text_style,
-    };
-    damage_of(sheet, item.ink_box(), changed.ink_box())
+    let layout = item.layout();
+    match edit {
+        Edit::Text(text) => layout.ink_box_of(Some(text)),
+        Edit::Place(x, y) => {
+            let moved = TextLayout {
+                text: layout.text,
+                metrics: layout.metrics,
+                position: Point {
+                    x: edits::biased(x),
+                    y: edits::biased(y),
+                },
+                character_style: layout.character_style,
+                text_style: layout.text_style,
+            };
+            moved.ink_box()
+        }
+        Edit::Style(style) => {
+            let styled = TextLayout {
+                text: layout.text,
+                metrics: layout.metrics,
+                position: layout.position,
+                character_style: records::style_of(style),
+                text_style: layout.text_style,
+            };
+            styled.ink_box()
+        }
+    }
 }
 
-// The damage rectangle of a new text: the lines before are parts of the stored text, those after of the new one.
-pub fn text_damage<'a>(sheet: &'a [u8], n: u32, new: &'a [u8]) -> Rectangle
-    requires { EditAllowed sheet.now (new_text n new.now) }
-    ensures { result ≡ damage sheet.now (edited sheet.now (new_text n new.now)) n }
+// The damage rectangle of an edit.
+pub fn damage<'a>(sheet: Sheet<'a>, n: u32, edit: Edit<'a>) -> Rectangle
+    requires { EditAllowed sheet.bytes.now (of_item n edit) }
+    ensures { result ≡ damage sheet.entry.bytes.now (edited sheet.entry.bytes.now (of_item n edit.entry)) n }
 {
-    let item = item_at(sheet, n);
-    let before = item.ink_box();
-    let after = item.ink_box_of(Some(new));
+    let item = ItemRecord { sheet, number: n };
+    let before = item.layout().ink_box();
+    let after = ink_after(item, edit);
     damage_of(sheet, before, after)
-}
-
-// The damage rectangle of a new place.
-pub fn place_damage(sheet: &[u8], n: u32, x: i32, y: i32) -> Rectangle
-    requires { EditAllowed sheet.now (new_place n x y) }
-    ensures { result ≡ damage sheet.now (edited sheet.now (new_place n x y)) n }
-{
-    let left = edits::biased(x);
-    let top = edits::biased(y);
-    let style = records::mono_text_style(sheet, n);
-    change_damage(sheet, n, style, Point { x: left, y: top })
-}
-
-// The damage rectangle of a new style.
-pub fn style_damage(sheet: &[u8], n: u32, new: &[u8]) -> Rectangle
-    requires { EditAllowed sheet.now (new_style n new.now) }
-    ensures { result ≡ damage sheet.now (edited sheet.now (new_style n new.now)) n }
-{
-    let p = records::position(sheet, n);
-    let style = records::style_of(new);
-    change_damage(sheet, n, style, p)
 }

@@ -3,4 +3,4 @@ use Rattle.drawing.proofs.Readings.{item-box}
 use Rattle.drawing.proofs.bounding_box.Goals as goal
 
 pub returns : goal.returns
-returns c = item-box _ _ _ c.item_at.ensures _ c.bounding_box.ensures
+returns c = item-box _ _ c.layout.result c.layout.ensures.font_value c.layout.ensures.value _ c.bounding_box.ensures

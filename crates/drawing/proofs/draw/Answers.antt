@@ -2,8 +2,8 @@
 use Rattle.drawing.proofs.Painting.{framed_canvas, fresh_painted}
 use Rattle.drawing.proofs.draw.Goals as goal
 
-pub repaint-requires-clause-canvas : goal.repaint-requires-clause-canvas
-repaint-requires-clause-canvas c = search framed_canvas
+pub repaint-requires : goal.repaint-requires
+repaint-requires c = search framed_canvas
 
 pub returns : goal.returns
 returns c = search fresh_painted

@@ -8,5 +8,5 @@ new-frame-requires c = search framed_canvas
 
 pub returns-clause-frame_after : goal.returns-clause-frame_after
 returns-clause-frame_after c =
-    let p = whole_drawn _ _ _ _ _ _ _ c.requires.framed c.frame_of-clip.ensures c.target_of.ensures c.new-frame.ensures.target_value c.new-frame.ensures.greys_value c.draw_item_in.ensures.painted in
+    let p = whole_drawn _ _ _ _ _ _ _ c.requires c.frame_of-clip.ensures c.target_of.ensures c.new-frame.ensures.target_value c.new-frame.ensures.greys_value c.draw_item_in.ensures.painted in
     grind arith

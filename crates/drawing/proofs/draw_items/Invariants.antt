@@ -3,4 +3,4 @@ use Rattle.drawing.proofs.Painting.{ItemsDrawn}
 use Rattle.drawing.proofs.draw_items.Given as goal
 
 abbrev pub invariant-loop-n : goal.invariant-loop-n
-invariant-loop-n l = ItemsDrawn l.sheet l.initial.frame l.n l.frame
+invariant-loop-n l = ItemsDrawn l.sheet.bytes.now l.initial.frame l.n l.frame

@@ -8,5 +8,5 @@ new-frame-requires c = search canvas_read
 
 pub returns : goal.returns
 returns c =
-    let p = page_drawn _ _ _ _ _ _ _ _ c.target_of-target.ensures c.paper-grey.ensures c.new-frame.ensures.target_value c.new-frame.ensures.greys_value c.fill_solid.ensures c.draw_items.ensures in
+    let p = page_drawn _ _ _ _ _ _ _ _ c.target_of-target.ensures (rw c.header.ensures at c.paper-grey.ensures) c.new-frame.ensures.target_value c.new-frame.ensures.greys_value c.fill_solid.ensures c.draw_items.ensures in
     grind arith

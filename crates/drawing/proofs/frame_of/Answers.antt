@@ -1,5 +1,0 @@
--- The width and the height are the sheet's.
-use Rattle.drawing.proofs.frame_of.Goals as goal
-
-pub returns : goal.returns
-returns c = cc
