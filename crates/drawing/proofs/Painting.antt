@@ -55,9 +55,9 @@ module _ (b frame : List ℕ) where
   painted_whole ys clip f g c e = (rw c at e) ∙ paint_whole b g.accepted frame g.sized f
 
   -- what is painted on a frame that was made of these greys
-  pub whole_drawn : (clip : Rectangle) (t : DrawTarget) (before after : Frame) (f : Layer) → Framed b frame → clip ≡ frame_of (frame_width b) (frame_height b) → t ≡ target_of b clip
-      → before.target ≡ t → before.greys.now ≡ frame → Painted before f after → after.greys.now ≡ paint (frame_width b) f frame
-  whole_drawn clip t before after f g e et eb eg p = painted_whole after.greys.now clip f g e (rw (eb, et, eg) at p.greys)
+  pub whole_drawn : (before after : Frame) (f : Layer) → Framed b frame → before.target ≡ target_of b (frame_of (frame_width b) (frame_height b)) → before.greys.now ≡ frame → Painted before f after
+      → after.greys.now ≡ paint (frame_width b) f frame
+  whole_drawn before after f g et eg p = painted_whole after.greys.now _ f g refl (rw (et, eg) at p.greys)
 
   pub fresh_painted : (ys : List ℕ) (clip : Rectangle) → Framed b frame → clip ≡ frame_of (frame_width b) (frame_height b) → ys ≡ repainted b clip frame → ys ≡ fresh_drawing b frame
   unfolding repainted fresh_drawing

@@ -45,6 +45,17 @@ fn target_of(sheet: Sheet<'_>, clip: Rectangle) -> DrawTarget
     }
 }
 
+// The greys of a frame of the sheet's size, all of which may change.
+fn whole_frame<'a>(sheet: Sheet<'_>, greys: &'a mut [u8]) -> Frame<'a>
+    requires { Framed sheet.bytes.now greys.old }
+    ensures same_greys { result.greys.ghost_name ≡ greys.entry.ghost_name }
+    ensures greys_value { result.greys.now ≡ greys.old }
+    ensures target_value { result.target ≡ target_of sheet.entry.bytes.now (frame_of (frame_width sheet.entry.bytes.now) (frame_height sheet.entry.bytes.now)) }
+{
+    let clip = frame_of(sheet);
+    Frame::new(greys, target_of(sheet, clip))
+}
+
 // Draws an item in a frame's clip; replies its next position and how many characters are not listed, if `replies`.
 fn draw_item_in(item: ItemRecord<'_>, frame: &mut Frame, replies: bool) -> DrawnText
     ensures painted { Painted frame.old (layer_of item.entry) frame.new }
@@ -81,7 +92,7 @@ pub fn repaint(sheet: Sheet<'_>, frame: &mut [u8], area: Rectangle)
     ensures { frame.new ≡ repainted sheet.entry.bytes.now area frame.old }
 {
     let target = target_of(sheet, area);
-    let whole = (area.width as usize == target.width) & (area.height as usize == target.height);
+    let whole = area.width as usize == target.width && area.height as usize == target.height;
     let mut frame = Frame::new(frame, target);
     let grey = sheet.header().paper();
     frame.fill_solid(area, grey);
@@ -104,8 +115,7 @@ pub fn draw_item(item: ItemRecord<'_>, frame: &mut [u8]) -> DrawnText
     ensures next_value { result.next ≡ next (font_of item.entry).mono (text_of item.entry) }
     ensures replaced_value { result.replaced ≡ replaced (font_of item.entry) (text_of item.entry) }
 {
-    let clip = frame_of(item.sheet);
-    let mut frame = Frame::new(frame, target_of(item.sheet, clip));
+    let mut frame = whole_frame(item.sheet, frame);
     draw_item_in(item, &mut frame, true)
 }
 
@@ -135,8 +145,7 @@ pub fn draw_whitespace(item: ItemRecord<'_>, frame: &mut [u8], width: u32) -> Po
     ensures frame_after { frame.new ≡ paint (frame_width item.entry.sheet.bytes.now) (whitespace_layer (font_of item.entry).mono (text_of item.entry) width) frame.old }
     ensures value { result ≡ whitespace_next (text_of item.entry) width }
 {
-    let clip = frame_of(item.sheet);
-    let mut frame = Frame::new(frame, target_of(item.sheet, clip));
+    let mut frame = whole_frame(item.sheet, frame);
     draw_whitespace_in(item, &mut frame, width)
 }
 

@@ -8,6 +8,7 @@ use lib.ListN.{length, get_or, take, drop}
 use lib.Seq.{get_or-take, get_or-drop}
 use native.Mathlib.Omega.{arith}
 use Rattle.geometry.specs.declared.Point.{Point}
+use Rattle.mapping.specs.Entries.{WithinLimit}
 use Rattle.line.specs.declared.MonoFont.{MonoFont}
 use Rattle.line.specs.declared.MonoTextStyle.{MonoTextStyle}
 use Rattle.line.specs.Line.{font_of}
@@ -22,7 +23,17 @@ use Rattle.sheet.specs.Requires.{FontListed, ItemListed}
 use Rattle.sheet.proofs.Bytes.{length_part}
 use Rattle.records.specs.Records.{line_height, mono_font, font, mono_text_style, style_of, text_style, item_of, item, item_font}
 
--- ---- what is read
+-- ---- what an accepted sheet gives
+
+-- an item's font is listed
+pub font_listed : (b : List ℕ) (n f : ℕ) → ItemListed b n → f ≡ Fields.font_number b (item_at b n) → FontListed b f
+font_listed b n f g e = record { accepted = g.accepted; listed = rw e (g.accepted.item-fits n g.listed).font_there }
+
+-- a font's mapping is well-formed, and short enough to be searched
+pub mapping_limit : (b : List ℕ) (k : ℕ) (mapping : List ℕ) → FontListed b k → mapping ≡ mapping_bytes b (font_at k) → WithinLimit mapping
+mapping_limit b k mapping g e =
+    let fits = g.accepted.font-fits k g.listed in
+    record { well = rw e fits.mapping_well; spelled = rw e fits.mapping_short }
 
 -- of either kind, the height has the value that is stored
 pub height_value_lem : (kind value : ℕ) → height_value (line_height kind value) ≡ value
