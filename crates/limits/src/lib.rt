@@ -1,7 +1,7 @@
 // The limits of a sheet (docs/SHEET.md, Sheet), on numbers: each test of a record's fields, with its refusal.
 #![tactic(auto)]
 
-ghost use Rattle.std.specs.Prelude.{◌≡◌};
+ghost use Rattle.std.specs.Prelude.{◌≡◌, ◌*◌, ◌&&◌, leb};
 ghost use Rattle.refusals.specs.Numbers.{refusal_of};
 ghost use Rattle.limits.specs.Limits.{header_refusal, font_limits, good_modes, item_limits};
 
@@ -47,6 +47,14 @@ pub struct ItemFields {
     pub zero: usize,
 }
 
+// Whether a frame may have these sides.
+#[tactic(auto, using(characters::proofs::Tests::tests))]
+fn is_frame_size(width: u32, height: u32) -> bool
+    ensures { result ≡ (leb 1 width && leb width 512 && leb 1 height && leb height 512 && leb (width * height) 65_536) }
+{
+    (1..=512).contains(&width) && (1..=512).contains(&height) && width * height <= 65536
+}
+
 // Refusals 1 to 4.
 #[tactic(auto, using(characters::proofs::Tests::tests), unfolding(crate::specs::Limits::header_refusal))]
 pub fn header_refusal(header: HeaderFields) -> Result<(), Refusal>
@@ -68,10 +76,7 @@ pub fn header_refusal(header: HeaderFields) -> Result<(), Refusal>
     if edition != 1 {
         return Err(Refusal::Edition);
     }
-    if !(1..=512).contains(&width) {
-        return Err(Refusal::FrameSize);
-    }
-    if !(1..=512).contains(&height) || 65536 < width * height {
+    if !is_frame_size(width, height) {
         return Err(Refusal::FrameSize);
     }
     if 4 < fonts || 64 < items {
