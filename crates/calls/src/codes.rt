@@ -1,111 +1,130 @@
-// The codes of the calls: the check's refusal, then the call's own tests, rising.
-ghost use Rattle.std.specs.Prelude.{◌≡◌};
-ghost use Rattle.calls.specs.Calls.{is_there, font_code, item_code, draw_code, draw_item_code, whitespace_code, edit_list_code, page_code};
+// The codes of the calls: the check's refusal, then the call's own tests, rising; a call that passes them has the accepted sheet.
+ghost use Rattle.std.specs.Prelude.{◌≡◌, ◌≤◌, true, length, IfOk};
+ghost use Rattle.refusals.specs.Numbers.{refusal_of};
+ghost use Rattle.sheet.specs.Requires.{FontListed, ItemListed};
+ghost use Rattle.entries.specs.Entries.{is_filled};
+ghost use Rattle.drawing.specs.Frames.{Framed};
+ghost use Rattle.calls.specs.Calls.{netpbm, is_there, font_code, item_code, draw_code, draw_item_code, whitespace_code, edit_list_code, page_code};
 
 use page::page_length;
-use sheet::fields::{font_count, frame_height, frame_width, item_count};
+use refusals::Refusal;
+use sheet::Sheet;
 
 // 12 for a number that is not below the count.
-fn is_there(n: u32, count: u32) -> u32
-    ensures { result ≡ is_there n count 0 }
+fn is_there(n: u32, count: u32) -> Result<(), Refusal>
+    ensures { refusal_of result ≡ is_there n count 0 }
 {
     if n < count {
-        return 0;
+        return Ok(());
     }
-    12
+    Err(Refusal::NoSuch)
 }
 
 // The check, then 12 for a font.
-pub fn font_code(sheet: &[u8], n: u32) -> u32
-    ensures { result ≡ font_code sheet.now n }
+#[tactic(auto, using(characters::proofs::Refusals::chain, crate::proofs::Refusals::listed), unfolding(crate::specs::Calls::font_code))]
+pub fn font_code(sheet: &[u8], n: u32) -> Result<Sheet<'_>, Refusal>
+    ensures value { refusal_of result ≡ font_code sheet.now n }
+    ensures same_bytes { IfOk result (λ accepted. accepted.bytes.now ≡ sheet.now) }
+    ensures font_listed { IfOk result (λ accepted. FontListed accepted.bytes.now n) }
 {
-    let code = sheet::check(sheet);
-    if code != 0 {
-        return code;
-    }
-    is_there(n, font_count(sheet))
+    let accepted = sheet::accepted(sheet)?;
+    is_there(n, accepted.header().font_count())?;
+    Ok(accepted)
 }
 
 // The check, then 12 for an item.
-pub fn item_code(sheet: &[u8], n: u32) -> u32
-    ensures { result ≡ item_code sheet.now n }
+#[tactic(auto, using(characters::proofs::Refusals::chain, crate::proofs::Refusals::listed), unfolding(crate::specs::Calls::item_code))]
+pub fn item_code(sheet: &[u8], n: u32) -> Result<Sheet<'_>, Refusal>
+    ensures value { refusal_of result ≡ item_code sheet.now n }
+    ensures same_bytes { IfOk result (λ accepted. accepted.bytes.now ≡ sheet.now) }
+    ensures item_listed { IfOk result (λ accepted. ItemListed accepted.bytes.now n) }
 {
-    let code = sheet::check(sheet);
-    if code != 0 {
-        return code;
-    }
-    is_there(n, item_count(sheet))
+    let accepted = sheet::accepted(sheet)?;
+    is_there(n, accepted.header().item_count())?;
+    Ok(accepted)
 }
 
 // The check, then 11.
-pub fn frame_code(sheet: &[u8], frame: &[u8]) -> u32
-    ensures { result ≡ draw_code sheet.now frame.now }
+#[tactic(auto, using(characters::proofs::Refusals::chain, crate::proofs::Refusals::listed), unfolding(crate::specs::Calls::draw_code))]
+pub fn frame_code<'a>(sheet: &'a [u8], frame: &[u8]) -> Result<Sheet<'a>, Refusal>
+    ensures value { refusal_of result ≡ draw_code sheet.now frame.now }
+    ensures same_bytes { IfOk result (λ accepted. accepted.bytes.now ≡ sheet.now) }
+    ensures framed { IfOk result (λ accepted. Framed accepted.bytes.now frame.now) }
 {
-    let code = sheet::check(sheet);
-    if code != 0 {
-        return code;
+    let accepted = sheet::accepted(sheet)?;
+    let header = accepted.header();
+    let w = header.frame_width() as usize;
+    let h = header.frame_height() as usize;
+    if frame.len() != w * h {
+        return Err(Refusal::FrameLength);
     }
-    let w = frame_width(sheet) as usize;
-    let h = frame_height(sheet) as usize;
-    let pixels = w * h;
-    if frame.len() == pixels {
-        return 0;
-    }
-    11
+    Ok(accepted)
 }
 
 // The check, 11, then 12 for an item.
-pub fn draw_item_code(sheet: &[u8], frame: &[u8], n: u32) -> u32
-    ensures { result ≡ draw_item_code sheet.now frame.now n }
+#[tactic(auto, using(characters::proofs::Tests::tests, crate::proofs::Refusals::call_chain, crate::proofs::Refusals::listed), unfolding(crate::specs::Calls::draw_item_code))]
+pub fn draw_item_code<'a>(sheet: &'a [u8], frame: &[u8], n: u32) -> Result<Sheet<'a>, Refusal>
+    ensures value { refusal_of result ≡ draw_item_code sheet.now frame.now n }
+    ensures same_bytes { IfOk result (λ accepted. accepted.bytes.now ≡ sheet.now) }
+    ensures framed { IfOk result (λ accepted. Framed accepted.bytes.now frame.now) }
+    ensures item_listed { IfOk result (λ accepted. ItemListed accepted.bytes.now n) }
 {
-    let code = frame_code(sheet, frame);
-    if code != 0 {
-        return code;
-    }
-    is_there(n, item_count(sheet))
+    let accepted = frame_code(sheet, frame)?;
+    is_there(n, accepted.header().item_count())?;
+    Ok(accepted)
 }
 
 // The check, 11, 12, then 18.
-pub fn whitespace_code(sheet: &[u8], frame: &[u8], n: u32, width: u32) -> u32
-    ensures { result ≡ whitespace_code sheet.now frame.now n width }
+#[tactic(auto, using(characters::proofs::Tests::tests, crate::proofs::Refusals::call_chain, crate::proofs::Refusals::listed), unfolding(crate::specs::Calls::whitespace_code))]
+pub fn whitespace_code<'a>(
+    sheet: &'a [u8],
+    frame: &[u8],
+    n: u32,
+    width: u32,
+) -> Result<Sheet<'a>, Refusal>
+    ensures value { refusal_of result ≡ whitespace_code sheet.now frame.now n width }
+    ensures same_bytes { IfOk result (λ accepted. accepted.bytes.now ≡ sheet.now) }
+    ensures framed { IfOk result (λ accepted. Framed accepted.bytes.now frame.now) }
+    ensures item_listed { IfOk result (λ accepted. ItemListed accepted.bytes.now n) }
+    ensures width_bound { IfOk result (λ accepted. width ≤ 65_535) }
 {
-    let code = draw_item_code(sheet, frame, n);
-    if code != 0 {
-        return code;
-    }
+    let accepted = draw_item_code(sheet, frame, n)?;
     if width <= 65535 {
-        return 0;
+        return Ok(accepted);
     }
-    18
+    Err(Refusal::Whitespace)
 }
 
 // The check, 11, then 17.
-pub fn page_code(sheet: &[u8], frame: &[u8], output: &[u8]) -> u32
-    ensures { result ≡ page_code sheet.now frame.now output.now }
+#[tactic(auto, using(characters::proofs::Tests::tests, crate::proofs::Refusals::call_chain, crate::proofs::Refusals::listed), unfolding(crate::specs::Calls::page_code))]
+pub fn page_code<'a>(sheet: &'a [u8], frame: &[u8], output: &[u8]) -> Result<Sheet<'a>, Refusal>
+    ensures value { refusal_of result ≡ page_code sheet.now frame.now output.now }
+    ensures same_bytes { IfOk result (λ accepted. accepted.bytes.now ≡ sheet.now) }
+    ensures framed { IfOk result (λ accepted. Framed accepted.bytes.now frame.now) }
+    ensures page_in { IfOk result (λ accepted. length (netpbm accepted.bytes.now frame.now) ≤ length output.now) }
 {
-    let code = frame_code(sheet, frame);
-    if code != 0 {
-        return code;
-    }
-    let w = frame_width(sheet) as usize;
-    let h = frame_height(sheet) as usize;
+    let accepted = frame_code(sheet, frame)?;
+    let header = accepted.header();
+    let w = header.frame_width() as usize;
+    let h = header.frame_height() as usize;
     let length = page_length(frame, w, h);
     if length <= output.len() {
-        return 0;
+        return Ok(accepted);
     }
-    17
+    Err(Refusal::OutputTooShort)
 }
 
 // The check, 11, then 22.
-pub fn list_code(sheet: &[u8], frame: &[u8], list: &[u8]) -> u32
-    ensures { result ≡ edit_list_code sheet.now frame.now list.now }
+#[tactic(auto, using(characters::proofs::Tests::tests, crate::proofs::Refusals::call_chain, crate::proofs::Refusals::listed), unfolding(crate::specs::Calls::edit_list_code))]
+pub fn list_code<'a>(sheet: &'a [u8], frame: &[u8], list: &[u8]) -> Result<Sheet<'a>, Refusal>
+    ensures value { refusal_of result ≡ edit_list_code sheet.now frame.now list.now }
+    ensures same_bytes { IfOk result (λ accepted. accepted.bytes.now ≡ sheet.now) }
+    ensures framed { IfOk result (λ accepted. Framed accepted.bytes.now frame.now) }
+    ensures filled { IfOk result (λ accepted. is_filled list.now ≡ true) }
 {
-    let code = frame_code(sheet, frame);
-    if code != 0 {
-        return code;
-    }
+    let accepted = frame_code(sheet, frame)?;
     if entries::is_filled(list) {
-        return 0;
+        return Ok(accepted);
     }
-    22
+    Err(Refusal::List)
 }

@@ -7,7 +7,7 @@ pub mod replies;
 
 // A code and a value: yes or no as 1 or 0, or a length.
 #[repr(C)]
-#[derive(Clone, Copy)]
+#[derive(Clone, Copy, Debug, PartialEq, Eq)]
 pub struct Number {
     pub code: u32,
     pub value: u32,
@@ -15,7 +15,7 @@ pub struct Number {
 
 // A code, the index of a character's glyph, and 1 for a character that is listed, else 0.
 #[repr(C)]
-#[derive(Clone, Copy)]
+#[derive(Clone, Copy, Debug, PartialEq, Eq)]
 pub struct Glyph {
     pub code: u32,
     pub index: u32,
@@ -24,7 +24,7 @@ pub struct Glyph {
 
 // A code and a position on the frame.
 #[repr(C)]
-#[derive(Clone, Copy)]
+#[derive(Clone, Copy, Debug, PartialEq, Eq)]
 pub struct Position {
     pub code: u32,
     pub x: i32,
@@ -33,7 +33,7 @@ pub struct Position {
 
 // A code, the position after what was drawn, and how many characters are not listed.
 #[repr(C)]
-#[derive(Clone, Copy)]
+#[derive(Clone, Copy, Debug, PartialEq, Eq)]
 pub struct Drawn {
     pub code: u32,
     pub x: i32,
@@ -43,7 +43,7 @@ pub struct Drawn {
 
 // A code and a rectangle on the frame.
 #[repr(C)]
-#[derive(Clone, Copy)]
+#[derive(Clone, Copy, Debug, PartialEq, Eq)]
 pub struct Box {
     pub code: u32,
     pub left: i32,
@@ -54,7 +54,7 @@ pub struct Box {
 
 // A code, the number of edits made, and a rectangle on the frame.
 #[repr(C)]
-#[derive(Clone, Copy)]
+#[derive(Clone, Copy, Debug, PartialEq, Eq)]
 pub struct Batch {
     pub code: u32,
     pub made: u32,
@@ -66,7 +66,7 @@ pub struct Batch {
 
 // A code, and of the walker: 1 at the end, else the character, and the offset of the next.
 #[repr(C)]
-#[derive(Clone, Copy)]
+#[derive(Clone, Copy, Debug, PartialEq, Eq)]
 pub struct Step {
     pub code: u32,
     pub ended: u32,

@@ -1,12 +1,8 @@
--- The first refusal of two: the second is asked where the first is 0.
-use Rattle.calls.proofs.Refusals.{draw_item_code_is, refused_first, refused_then, header_in, draw_accepted, same_count}
+-- The refusal of the tests before is the call's.
+use Rattle.calls.specs.Calls.{draw_item_code}
+use Rattle.calls.proofs.Refusals.{framed_handed_on}
 use Rattle.calls.proofs.codes.draw_item_code.Goals as goal
 
-pub returns-then-code-ne0 : goal.returns-then-code-ne0
-returns-then-code-ne0 c = rw draw_item_code_is (search refused_first)
-
-pub item_count-requires : goal.item_count-requires
-item_count-requires c = search (header_in, draw_accepted)
-
-pub returns : goal.returns
-returns c = rw draw_item_code_is (search (refused_then, same_count))
+pub returns-in_err-accepted-clause-value : goal.returns-in_err-accepted-clause-value
+unfolding draw_item_code
+returns-in_err-accepted-clause-value c = framed_handed_on _ _ _ _ _ c.from_residual.ensures.1 c.in_err-accepted.ensures.value

@@ -1,18 +1,17 @@
--- The first refusal of two: the second is asked where the first is 0.
-use Rattle.calls.proofs.Refusals.{page_code_is, refused_first, header_in, draw_accepted, page-fits, page_unfit}
+-- The refusal of the tests before is the call's.
+use Rattle.calls.specs.Calls.{page_code}
+use Rattle.calls.proofs.Refusals.{framed_handed_on, page_in, page_room, page_short}
 use Rattle.calls.proofs.codes.page_code.Goals as goal
 
-pub returns-then-code-ne0 : goal.returns-then-code-ne0
-returns-then-code-ne0 c = rw page_code_is (search refused_first)
+pub returns-in_err-accepted-clause-value : goal.returns-in_err-accepted-clause-value
+unfolding page_code
+returns-in_err-accepted-clause-value c = framed_handed_on _ _ _ _ _ c.from_residual.ensures.1 c.in_err-accepted.ensures.value
 
-pub frame_width-w-requires : goal.frame_width-w-requires
-frame_width-w-requires c = search (header_in, draw_accepted)
+pub returns-then-length-output-clause-value : goal.returns-then-length-output-clause-value
+returns-then-length-output-clause-value c = page_room c.in_ok-accepted.accepted.bytes.now _ _ _ _ _ c.page_length-length.ensures (cc) (cc) _ c.in_ok-accepted.ensures.same_bytes c.in_ok-accepted.ensures.value c.if-length-output.true
 
-pub frame_height-h-requires : goal.frame_height-h-requires
-frame_height-h-requires c = search (header_in, draw_accepted)
+pub returns-then-length-output-clause-page_in : goal.returns-then-length-output-clause-page_in
+returns-then-length-output-clause-page_in c = page_in c.in_ok-accepted.accepted.bytes.now _ _ _ _ _ c.page_length-length.ensures (cc) (cc) c.if-length-output.true
 
-pub returns-then-length-output : goal.returns-then-length-output
-returns-then-length-output c = search page-fits
-
-pub returns : goal.returns
-returns c = search page_unfit
+pub returns-clause-value : goal.returns-clause-value
+returns-clause-value c = page_short c.in_ok-accepted.accepted.bytes.now _ _ _ _ _ c.page_length-length.ensures (cc) (cc) _ c.in_ok-accepted.ensures.same_bytes c.in_ok-accepted.ensures.value c.if-length-output.false
