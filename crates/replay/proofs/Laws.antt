@@ -10,9 +10,7 @@ use mir.Syntax.{w32}
 use mir.Val.{to_z, of_z, SFits}
 use mir.Facts.{to_z-of_z}
 use borrow.Author.Tests.{le-leb, lt-leb, eq-eqb, ne_eqb}
-use Rattle.sheet.specs.Edits.{Edit, new_text, new_place, new_style}
-use Rattle.calls.specs.declared.Box.{Box}
-use Rattle.calls.specs.Calls.{edit_reply, edit_sheet, edit_frame, on_sheet_reply, on_sheet_sheet}
+use Rattle.sheet.specs.Edits.{new_text, new_place, new_style}
 use Rattle.replay.specs.Edits.{edit_of}
 use Rattle.replay.specs.Stored.{stored}
 
@@ -45,28 +43,12 @@ module _ (kind item : ℕ) (x y : ℤ) (bytes : List ℕ) where
   edit_text e = rw (eq-eqb kind 0 e)
 
   -- x and y are handed on as 32 bits
-  pub edit_place : SFits w32 x → SFits w32 y → (kind ≡ 0 → ⊥) → kind ≡ 1 → edit_of kind item x y bytes ≡ new_place item (to_z w32 (of_z w32 x)) (to_z w32 (of_z w32 y))
+  pub edit_place : SFits w32 x → SFits w32 y → kind ≡ 1 → edit_of kind item x y bytes ≡ new_place item (to_z w32 (of_z w32 x)) (to_z w32 (of_z w32 y))
   unfolding edit_of
-  edit_place f g n e = rw (ne_eqb kind 0 n, eq-eqb kind 1 e, to_z-of_z {z = x} f, to_z-of_z {z = y} g)
+  edit_place f g e =
+      let n : kind ≡ 0 → ⊥ = λ (z : kind ≡ 0). omega arith in
+      rw (ne_eqb kind 0 n, eq-eqb kind 1 e, to_z-of_z {z = x} f, to_z-of_z {z = y} g)
 
   pub edit_style : (kind ≡ 0 → ⊥) → (kind ≡ 1 → ⊥) → edit_of kind item x y bytes ≡ new_style item bytes
   unfolding edit_of
   edit_style n m = rw (ne_eqb kind 0 n, ne_eqb kind 1 m)
-
--- what a call did for an edit, it did for the same edit by its kind
-module _ (b frame : List ℕ) {e e' : Edit} (same : e' ≡ e) where
-  pub reply_as : {r : Box} → r ≡ edit_reply b frame e → r ≡ edit_reply b frame e'
-  reply_as h = rw same h
-
-  pub sheet_as : {s : List ℕ} → s ≡ edit_sheet b frame e → s ≡ edit_sheet b frame e'
-  sheet_as h = rw same h
-
-  pub frame_as : {f : List ℕ} → f ≡ edit_frame b frame e → f ≡ edit_frame b frame e'
-  frame_as h = rw same h
-
-module _ (b : List ℕ) {e e' : Edit} (same : e' ≡ e) where
-  pub on_sheet_reply_as : {r : Box} → r ≡ on_sheet_reply b e → r ≡ on_sheet_reply b e'
-  on_sheet_reply_as h = rw same h
-
-  pub on_sheet_sheet_as : {s : List ℕ} → s ≡ on_sheet_sheet b e → s ≡ on_sheet_sheet b e'
-  on_sheet_sheet_as h = rw same h

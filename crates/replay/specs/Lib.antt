@@ -2,3 +2,4 @@
 pub mod Edits
 pub mod Replies
 pub mod Stored
+pub mod Spelled

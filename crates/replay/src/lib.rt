@@ -1,78 +1,107 @@
-// What the programs that replay a stored list share: numbers and parts read from it, replies compared, bytes stored, and the edits.
+// What the programs that replay a stored list share: numbers and parts read from it, its entries, bytes stored, replies in one form, and the edits.
 // A list that ends early has zeros for the missing bytes, and shorter parts.
 #![tactic(auto)]
 
 ghost use Rattle.std.specs.Prelude.{◌≡◌, true, ◌+◌, ◌*◌, ◌^◌, ◌<◌, ◌≤◌, min, leb, length, get_or, take, drop};
-ghost use Rattle.calls.specs.Calls.{edit_reply, edit_sheet, edit_frame, on_sheet_reply, on_sheet_sheet};
-ghost use Rattle.replay.specs.Edits.{edit_of};
-ghost use Rattle.replay.specs.Replies.{numbers, area_numbers, batch_numbers};
+ghost use Rattle.std.specs.Int.{w32, cast_signed};
+ghost use Rattle.std.specs.Iterator.{at_most};
 ghost use Rattle.replay.specs.Stored.{stored};
 
-use numbers::{byte_or_zero, wide};
-use station::{Batch, Box};
+mod edit;
+mod reply;
+
+pub use edit::Edit;
+pub use reply::Reply;
+
+// The byte at `at`.
+pub fn byte_at(bytes: &[u8], at: usize) -> u8
+    ensures { result ≡ get_or bytes.now at 0 }
+{
+    bytes.get(at).copied().unwrap_or(0)
+}
 
 // The number that the first two bytes store.
-pub fn u16_of(bytes: &[u8]) -> u32
-    ensures { (result ≡ get_or bytes.now 0 0 + 256 * get_or bytes.now 1 0) × (result < 2 ^ 16) }
+pub fn u16_of(bytes: &[u8]) -> u16
+    ensures { result ≡ get_or bytes.now 0 0 + 256 * get_or bytes.now 1 0 }
 {
-    wide(byte_or_zero(bytes, 0)) + 256 * wide(byte_or_zero(bytes, 1))
+    u16::from_le_bytes([byte_at(bytes, 0), byte_at(bytes, 1)])
 }
 
 // The number that the first four bytes store.
 pub fn u32_of(bytes: &[u8]) -> u32
     ensures { result ≡ get_or bytes.now 0 0 + 256 * get_or bytes.now 1 0 + 65536 * get_or bytes.now 2 0 + 16777216 * get_or bytes.now 3 0 }
 {
-    wide(byte_or_zero(bytes, 0))
-        + 256 * wide(byte_or_zero(bytes, 1))
-        + 65536 * wide(byte_or_zero(bytes, 2))
-        + 16777216 * wide(byte_or_zero(bytes, 3))
+    let first = [
+        byte_at(bytes, 0),
+        byte_at(bytes, 1),
+        byte_at(bytes, 2),
+        byte_at(bytes, 3),
+    ];
+    u32::from_le_bytes(first)
 }
 
-// The smaller of two numbers.
-pub fn least(a: usize, b: usize) -> usize
-    ensures { result ≡ min a b }
+// The signed number that the first four bytes store.
+pub fn i32_of(bytes: &[u8]) -> i32
+    ensures { result ≡ cast_signed w32 (get_or bytes.now 0 0 + 256 * get_or bytes.now 1 0 + 65536 * get_or bytes.now 2 0 + 16777216 * get_or bytes.now 3 0) }
 {
-    if a < b {
-        return a;
-    }
-    b
+    u32_of(bytes).cast_signed()
 }
 
 // As many of `size` bytes from `from` on as there are.
 pub fn part(bytes: &[u8], from: usize, size: usize) -> &[u8]
     ensures { result.now ≡ take size (drop from bytes.now) }
 {
-    let start = least(from, bytes.len());
-    let end = start + least(size, bytes.len() - start);
-    &bytes[start..end]
+    let behind = rest(bytes, from);
+    &behind[..size.min(behind.len())]
 }
 
 // The bytes from `at` on.
 pub fn rest(bytes: &[u8], at: usize) -> &[u8]
     ensures { result.now ≡ drop at bytes.now }
 {
-    part(bytes, at, bytes.len())
+    &bytes[at.min(bytes.len())..]
 }
 
 // A length that is stored at `at`, at most that of the longest sheet or frame.
 pub fn length_at(bytes: &[u8], at: usize) -> usize
     ensures { result ≤ 65536 }
 {
-    least(u32_of(rest(bytes, at)) as usize, 65536)
+    (u32_of(rest(bytes, at)) as usize).min(65536)
 }
 
-// The place behind an entry of a list that ends at `end`.
-pub fn after(at: usize, size: usize, end: usize) -> usize
-    requires { at < end }
-    ensures { (at < result) × (result ≤ end) }
-{
-    if size == 0 {
-        return end;
+// The entries of a list, each from its start to the list's end; one of no size is the last.
+#[derive(Drop)]
+pub struct Entries<'a, F> {
+    rest: &'a [u8],
+    size: F,
+}
+
+impl<'a, F: Fn(&[u8]) -> usize> Entries<'a, F> {
+    // The entries of a list, by the size of the one that a part of it starts with.
+    pub fn of(list: &'a [u8], size: F) -> Entries<'a, F>
+        ensures list { result.rest.now ≡ list.now }
+        ensures size { result.size ≡ size }
+    {
+        Entries { rest: list, size }
     }
-    if size < end - at {
-        return at + size;
+}
+
+impl<'a, F: Fn(&[u8]) -> usize> Iterator for Entries<'a, F> {
+    type Item = &'a [u8];
+
+    ghost remaining = { λ e. at_most (length e.rest.now) };
+
+    ghost can_next = { λ e. F.IsAlwaysCallable e.size };
+
+    fn next(&mut self) -> Option<&'a [u8]> {
+        let entry = self.rest;
+        if entry.is_empty() {
+            return None;
+        }
+        let size = (self.size)(entry);
+        self.rest = if size == 0 { &[] } else { rest(entry, size) };
+        Some(entry)
     }
-    end
 }
 
 // Stores bytes from `at` on and answers true, or false where they do not fit; then nothing is stored.
@@ -80,92 +109,10 @@ pub fn store(to: &mut [u8], at: usize, bytes: &[u8]) -> bool
     ensures value { result ≡ leb (at + length bytes.now) (length to.old) }
     ensures to_after { to.new ≡ stored to.old at bytes.now }
 {
-    if at > to.len() {
-        return false;
-    }
-    if bytes.len() > to.len() - at {
+    if at > to.len() || bytes.len() > to.len() - at {
         return false;
     }
     let end = at + bytes.len();
     to[at..end].copy_from_slice(bytes);
     true
-}
-
-// Whether two replies are the same. A reply of fewer numbers than a rectangle's has zeros for the others.
-pub fn same_reply(a: Box, b: Box) -> bool
-    ensures { (result ≡ true → numbers a ≡ numbers b) × (numbers a ≡ numbers b → result ≡ true) }
-{
-    if a.code != b.code {
-        return false;
-    }
-    if a.left != b.left {
-        return false;
-    }
-    if a.top != b.top {
-        return false;
-    }
-    if a.width != b.width {
-        return false;
-    }
-    a.height == b.height
-}
-
-// A batch's code and rectangle.
-pub fn area_of(reply: Batch) -> Box
-    ensures { numbers result ≡ area_numbers reply }
-{
-    Box {
-        code: reply.code,
-        left: reply.left,
-        top: reply.top,
-        width: reply.width,
-        height: reply.height,
-    }
-}
-
-// Whether two replies to batches are the same.
-pub fn same_batch(a: Batch, b: Batch) -> bool
-    ensures { (result ≡ true → batch_numbers a ≡ batch_numbers b) × (batch_numbers a ≡ batch_numbers b → result ≡ true) }
-{
-    if a.made != b.made {
-        return false;
-    }
-    same_reply(area_of(a), area_of(b))
-}
-
-// Makes an edit with a frame: 0 a new text, 1 a new place, any other kind a new style.
-pub fn edit(
-    sheet: &mut [u8],
-    frame: &mut [u8],
-    kind: u8,
-    item: u32,
-    x: i32,
-    y: i32,
-    text: &[u8],
-) -> Box
-    ensures value { result ≡ edit_reply sheet.old frame.old (edit_of kind item x y text.now) }
-    ensures sheet_after { sheet.new ≡ edit_sheet sheet.old frame.old (edit_of kind item x y text.now) }
-    ensures frame_after { frame.new ≡ edit_frame sheet.old frame.old (edit_of kind item x y text.now) }
-{
-    if kind == 0 {
-        return station::station_set_text(sheet, frame, item, text);
-    }
-    if kind == 1 {
-        return station::station_set_place(sheet, frame, item, x, y);
-    }
-    station::station_set_style(sheet, frame, item, text)
-}
-
-// Makes an edit on the sheet alone.
-pub fn edit_on_sheet(sheet: &mut [u8], kind: u8, item: u32, x: i32, y: i32, text: &[u8]) -> Box
-    ensures value { result ≡ on_sheet_reply sheet.old (edit_of kind item x y text.now) }
-    ensures sheet_after { sheet.new ≡ on_sheet_sheet sheet.old (edit_of kind item x y text.now) }
-{
-    if kind == 0 {
-        return station::station_set_text_on_sheet(sheet, item, text);
-    }
-    if kind == 1 {
-        return station::station_set_place_on_sheet(sheet, item, x, y);
-    }
-    station::station_set_style_on_sheet(sheet, item, text)
 }
