@@ -2,12 +2,12 @@
 -- Serves contracts: nothing here has to be believed.
 use Rattle.std.specs.Prelude.{ℕ, List, ◌∷◌, ◌++◌, codes}
 use Rattle.std.specs.Fmt.{decimal, signed_decimal}
-use Rattle.calls.specs.declared.Box.{Box}
 use Rattle.programs.specs.declared.Fault.{Fault}
+use Rattle.programs.specs.declared.Sides.{Sides}
 use Rattle.programs.specs.declared.Fault.TheVariants.{Refused, TooShort, TooLong}
 
 -- left, top, width and height in decimal, with a blank between two of them
-abbrev pub sides : Box → List ℕ
+abbrev pub sides : Sides → List ℕ
 sides r = signed_decimal r.left ++ 32 ∷ signed_decimal r.top ++ 32 ∷ decimal r.width ++ 32 ∷ decimal r.height
 
 -- a refusal with its number, or what is wrong with the input

@@ -9,24 +9,54 @@ ghost use Rattle.programs.specs.declared.Fault.TheVariants.{Refused};
 ghost use Rattle.programs.specs.Written.{sides, words};
 
 use sheet::fields::{frame_height, frame_width};
-use station::{Box, station_check};
+use station::{Batch, Box, station_check};
 use std::fmt;
 
-// A reply's rectangle as the programs write it: left, top, width and height.
+// A reply's rectangle as the programs write it.
 #[derive(Clone, Copy)]
-pub struct Sides(pub Box);
+pub struct Sides {
+    pub left: i32,
+    pub top: i32,
+    pub width: u32,
+    pub height: u32,
+}
+
+impl From<Box> for Sides {
+    ghost from_gives = { λ r s. (s.left ≡ r.left) × (s.top ≡ r.top) × (s.width ≡ r.width) × (s.height ≡ r.height) };
+
+    fn from(reply: Box) -> Sides {
+        Sides {
+            left: reply.left,
+            top: reply.top,
+            width: reply.width,
+            height: reply.height,
+        }
+    }
+}
+
+impl From<Batch> for Sides {
+    ghost from_gives = { λ r s. (s.left ≡ r.left) × (s.top ≡ r.top) × (s.width ≡ r.width) × (s.height ≡ r.height) };
+
+    fn from(reply: Batch) -> Sides {
+        Sides {
+            left: reply.left,
+            top: reply.top,
+            width: reply.width,
+            height: reply.height,
+        }
+    }
+}
 
 impl fmt::Display for Sides {
-    ghost output = { λ s. Some (sides s.0) };
+    ghost output = { λ s. Some (sides s) };
 
     fn fmt<W: fmt::Write>(&self, f: &mut fmt::Formatter<W>) -> fmt::Result {
-        let Box {
+        let Sides {
             left,
             top,
             width,
             height,
-            ..
-        } = self.0;
+        } = *self;
         write!(f, "{left} {top} {width} {height}")
     }
 }

@@ -6,49 +6,35 @@
 
 ghost use Rattle.std.specs.Prelude.{◌≤◌};
 
-use programs::{pixel_count, write_fault, write_number, write_part, write_signed, write_word};
+use programs::{Fault, Sides, pixel_count, write_fault, write_part};
 use reading::read_full;
 use sheet::fields::u32_at;
-use station::{Batch, station_edit_list};
-
-// Writes a reply's numbers as a line.
-fn write_reply(out: &impl Print, reply: Batch) {
-    let _ = out.print(reply.code);
-    write_number(out, reply.made as u64);
-    write_signed(out, reply.left);
-    write_signed(out, reply.top);
-    write_number(out, reply.width as u64);
-    write_number(out, reply.height as u64);
-    write_word(out, b"\n");
-}
+use station::station_edit_list;
 
 // Makes a list and writes what came of it.
 fn make_list(rt: &HostRuntime, sheet: &mut [u8], frame: &mut [u8], list: &[u8]) {
     let reply = station_edit_list(sheet, frame, list);
-    write_reply(rt, reply);
+    let _ = println!(rt; "{} {} {}", reply.code, reply.made, Sides::from(reply));
     if reply.code != 0 {
-        write_word(&rt.stderr(), b"list refused\n");
+        let _ = eprintln!(rt; "list refused");
         return;
     }
-    write_part(rt, &sheet[..], sheet.len(), b"sheet not written\n");
+    write_part(rt, sheet, sheet.len(), "sheet");
 }
 
 // Reads a sheet that fills `sheet`, and a list into `list`, which has a byte more than the longest; makes the list.
-fn run(rt: &HostRuntime, sheet: &mut [u8], list: &mut [u8]) {
-    let read = read_full(&mut rt.stdin(), sheet);
-    if read != sheet.len() {
-        write_fault(rt, b"too short\n");
-        return;
+fn run(rt: &HostRuntime, sheet: &mut [u8], list: &mut [u8]) -> Result<(), Fault> {
+    if read_full(&mut rt.stdin(), sheet) != sheet.len() {
+        return Err(Fault::TooShort);
     }
     let n = read_full(&mut rt.stdin(), list);
     if n == list.len() {
-        write_fault(rt, b"too long\n");
-        return;
+        return Err(Fault::TooLong);
     }
-    let pixels = pixel_count(&sheet[..]);
     let mut frame = [0u8; 65536];
-    let canvas = &mut frame[0..pixels];
+    let canvas = &mut frame[..pixel_count(sheet)];
     make_list(rt, sheet, canvas, &list[..n]);
+    Ok(())
 }
 
 // The sheet's length that standard input begins with; of a sheet of more than 65,536 bytes one byte past that limit, and so refused.
@@ -57,17 +43,14 @@ fn sheet_length(rt: &HostRuntime) -> usize
 {
     let mut head = [0u8; 4];
     read_full(&mut rt.stdin(), &mut head);
-    let length = u32_at(&head, 0);
-    if length > 65536 {
-        return 65537;
-    }
-    length
+    u32_at(&head, 0).min(65537)
 }
 
 fn main(rt: HostRuntime) {
     let mut file = [0u8; 65537];
     let mut list = [0u8; 65537];
-    let length = sheet_length(&rt);
-    let sheet = &mut file[0..length];
-    run(&rt, sheet, &mut list);
+    let sheet = &mut file[..sheet_length(&rt)];
+    if let Err(fault) = run(&rt, sheet, &mut list) {
+        write_fault(&rt, fault);
+    }
 }
