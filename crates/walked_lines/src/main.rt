@@ -1,5 +1,5 @@
 // Walks each line of standard input with the walker: a line of output for each character (its offset, then its number in hexadecimal),
-// then `end` or `10` with the offset where the walk stopped, and how many characters there were.
+// then `end` or `10` with the offset where the walk stopped, and how many characters there were. A write that fails is let pass.
 #![tactic(auto)]
 
 ghost use Rattle.std.specs.Prelude.{◌≡◌, length};
@@ -8,26 +8,13 @@ ghost use Rattle.characters.specs.Utf8.{chars};
 use characters::{Step, walker};
 use reading::read_full;
 
-// Writes a word; a write that fails is let pass.
-fn write(out: &impl Print, text: &[u8]) {
-    let _ = out.write_all(text);
-}
-
 // Writes what stands at an offset, and ends the line.
 fn write_step(out: &impl Print, at: usize, step: Step) {
-    let _ = print!(out; "{at}");
-    match step {
-        Step::Character(character, _) => {
-            let _ = print!(out; " {character:04x}");
-        }
-        Step::IllFormed => {
-            write(out, b" 10");
-        }
-        Step::End => {
-            write(out, b" end");
-        }
-    }
-    write(out, b"\n");
+    let _ = match step {
+        Step::Character(character, _) => println!(out; "{at} {character:04x}"),
+        Step::IllFormed => println!(out; "{at} 10"),
+        Step::End => println!(out; "{at} end"),
+    };
 }
 
 // Walks a line to its end, or to what is ill-formed, writes each step, and counts the characters.
@@ -47,21 +34,13 @@ fn walk_line(out: &impl Print, line: &[u8]) -> usize
     }
 }
 
-// Writes how many characters a line has.
-fn write_count(out: &impl Print, n: usize) {
-    let _ = println!(out; "characters {n}");
-}
-
-// Walks the lines between line feeds: n feeds give n + 1 lines.
-fn walk_lines(out: &impl Print, text: &[u8]) {
-    for line in text.split(|byte| *byte == 0x0A) {
-        write(out, b"line\n");
-        write_count(out, walk_line(out, line));
-    }
-}
-
+// The lines stand between line feeds: n feeds give n + 1 lines.
 fn main(rt: HostRuntime) {
     let mut text = [0u8; 4096];
     let n = read_full(&mut rt.stdin(), &mut text);
-    walk_lines(&rt, &text[..n]);
+    for line in text[..n].split(|byte| *byte == b'\n') {
+        let _ = println!(rt; "line");
+        let count = walk_line(&rt, line);
+        let _ = println!(rt; "characters {count}");
+    }
 }

@@ -2,8 +2,8 @@
 use Rattle.std.proofs.Common.{length, ◌-◌, ◌≤◌}
 use Rattle.marked_lines.proofs.show_text.Given as goal
 
-abbrev pub invariant-loop-c : goal.invariant-loop-c
-invariant-loop-c g l = l.c.at ≤ length l.bytes
+abbrev pub invariant-loop-ch : goal.invariant-loop-ch
+invariant-loop-ch g l = l.c.at ≤ length l.bytes
 
-abbrev pub decreases-loop-c : goal.decreases-loop-c
-decreases-loop-c g l = length l.bytes - l.c.at
+abbrev pub decreases-loop-ch : goal.decreases-loop-ch
+decreases-loop-ch g l = length l.bytes - l.c.at
