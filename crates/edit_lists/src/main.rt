@@ -1,122 +1,75 @@
 // A list of edits, made both ways through the exported calls: with a frame, singly or as batches, and singly on the sheet alone with one fresh
 // drawing at the end. Standard input holds the lengths of the sheet and of the frame (4 bytes each), the sheet, and the list: a kind (1 byte:
 // 0 text, 1 place, 2 style, 3 batch), an item (4; of a batch 0) and the data, which are a length (2) and the bytes, or x and y (4 each).
+// A write that fails is let pass.
 #![tactic(auto)]
 
 ghost use Rattle.std.specs.Prelude.{◌<◌, ◌≤◌};
 
-use entries::signed;
-use geometry::numbers::{greatest, minus};
-use numbers::{byte_or_zero, wide};
-use programs::{checksum, fill_strange, write_either, write_line, write_number, write_word};
+use programs::{checksum, fill_strange};
 use reading::read_full;
-use replay::{
-    after, area_of, edit, edit_on_sheet, least, length_at, part, rest, same_batch, same_reply,
-    store, u16_of, u32_of,
-};
-use station::{Batch, Box};
+use replay::{Edit, Entries, Reply, byte_at, i32_of, length_at, part, rest, store, u16_of, u32_of};
+use station::{station_draw, station_edit_list};
 
 // ---- what a rectangle covers
 
 // A number that is not negative; 65,536, where no frame reaches, for one that is.
 fn natural(z: i32) -> usize {
-    if z < 0 {
-        return 65536;
-    }
-    z as usize
+    usize::try_from(z).unwrap_or(65536)
 }
 
 // Whether `at` is one of `size` numbers from `from` on.
 fn covers(from: usize, size: u32, at: usize) -> bool {
-    if at < from {
-        return false;
-    }
-    at - from < size as usize
+    from <= at && at - from < size as usize
 }
 
-// Whether a rectangle covers the pixel number `i` of a frame.
-fn box_covers(area: Box, w: usize, i: usize) -> bool {
-    if w == 0 {
-        return false;
-    }
-    if covers(natural(area.left), area.width, i % w) {
-        return covers(natural(area.top), area.height, i / w);
-    }
-    false
+// Whether a reply's rectangle covers the pixel number `i` of a frame.
+fn area_covers(area: Reply, w: usize, i: usize) -> bool {
+    w != 0
+        && covers(natural(area.left), area.width, i % w)
+        && covers(natural(area.top), area.height, i / w)
 }
 
-// Whether the pixels of a frame that a rectangle does not cover are as they were.
-fn outside_kept(before: &[u8], after: &[u8], w: usize, area: Box) -> bool {
-    let mut i = 0;
-    while i < before.len() {
-        if before[i] != byte_or_zero(after, i) {
-            if !box_covers(area, w, i) {
-                return false;
-            }
-        }
-        i += 1;
-    }
-    true
+// Whether the pixels of a frame that a reply's rectangle does not cover are as they were.
+fn outside_kept(before: &[u8], after: &[u8], w: usize, area: Reply) -> bool {
+    before
+        .iter()
+        .zip(after)
+        .enumerate()
+        .all(|(i, (old, new))| old == new || area_covers(area, w, i))
 }
 
 // ---- the list
 
-fn item_of(edit: &[u8]) -> u32 {
-    u32_of(rest(edit, 1))
+fn is_batch(bytes: &[u8]) -> bool {
+    byte_at(bytes, 0) == 3
 }
 
-fn x_of(edit: &[u8]) -> i32 {
-    signed(u32_of(rest(edit, 5)))
-}
-
-fn y_of(edit: &[u8]) -> i32 {
-    signed(u32_of(rest(edit, 9)))
-}
-
-fn data_size(edit: &[u8]) -> usize
+fn data_size(bytes: &[u8]) -> usize
     ensures { result < 65536 }
 {
-    u16_of(rest(edit, 5)) as usize
+    usize::from(u16_of(rest(bytes, 5)))
 }
 
 // The new text or style, or the batch.
-fn data_of(edit: &[u8]) -> &[u8] {
-    part(edit, 7, data_size(edit))
+fn data_of(bytes: &[u8]) -> &[u8] {
+    part(bytes, 7, data_size(bytes))
 }
 
-// The bytes of an edit in the list.
-fn edit_size(edit: &[u8]) -> usize {
-    if byte_or_zero(edit, 0) == 1 {
-        return 13;
+// The bytes of an edit or a batch in the list.
+fn edit_size(bytes: &[u8]) -> usize {
+    match byte_at(bytes, 0) {
+        1 => 13,
+        _ => 7 + data_size(bytes),
     }
-    7 + data_size(edit)
 }
 
-// Makes an edit with a frame.
-fn make_with_frame(sheet: &mut [u8], frame: &mut [u8], bytes: &[u8]) -> Box {
-    let kind = byte_or_zero(bytes, 0);
-    edit(
-        sheet,
-        frame,
-        kind,
-        item_of(bytes),
-        x_of(bytes),
-        y_of(bytes),
-        data_of(bytes),
-    )
-}
-
-// Makes an edit on the sheet alone.
-fn make_on_sheet(sheet: &mut [u8], bytes: &[u8]) -> Box {
-    let kind = byte_or_zero(bytes, 0);
-    edit_on_sheet(
-        sheet,
-        kind,
-        item_of(bytes),
-        x_of(bytes),
-        y_of(bytes),
-        data_of(bytes),
-    )
+// The edit that stands in the list.
+fn edit_of(bytes: &[u8]) -> Edit<'_> {
+    let item = u32_of(rest(bytes, 1));
+    let x = i32_of(rest(bytes, 5));
+    let y = i32_of(rest(bytes, 9));
+    Edit::of(byte_at(bytes, 0), item, x, y, data_of(bytes))
 }
 
 // ---- a batch made singly on the sheet alone: its entries are a kind (1 byte), an item (1), and the data, a length (2) and the bytes
@@ -124,107 +77,75 @@ fn make_on_sheet(sheet: &mut [u8], bytes: &[u8]) -> Box {
 fn entry_data_size(entry: &[u8]) -> usize
     ensures { result < 65536 }
 {
-    u16_of(rest(entry, 2)) as usize
+    usize::from(u16_of(rest(entry, 2)))
 }
 
-// The bytes of an entry.
-fn entry_size(entry: &[u8]) -> usize {
-    4 + entry_data_size(entry)
-}
-
-// Makes the edit that an entry is.
-fn make_entry(sheet: &mut [u8], entry: &[u8]) -> Box {
-    let kind = byte_or_zero(entry, 0);
-    let item = wide(byte_or_zero(entry, 1));
-    let x = signed(u32_of(rest(entry, 4)));
-    let y = signed(u32_of(rest(entry, 8)));
-    let data = part(entry, 4, entry_data_size(entry));
-    edit_on_sheet(sheet, kind, item, x, y, data)
-}
-
-fn lesser(a: i32, b: i32) -> i32 {
-    if a < b {
-        return a;
-    }
-    b
+// The edit that an entry is.
+fn edit_of_entry(entry: &[u8]) -> Edit<'_> {
+    let item = u32::from(byte_at(entry, 1));
+    let x = i32_of(rest(entry, 4));
+    let y = i32_of(rest(entry, 8));
+    let bytes = part(entry, 4, entry_data_size(entry));
+    Edit::of(byte_at(entry, 0), item, x, y, bytes)
 }
 
 // A left column or a top row; 65,536 for one that is negative or further.
 fn corner(z: i32) -> u32
     ensures { result ≤ 65536 }
 {
-    least(natural(z), 65536) as u32
+    natural(z).min(65536) as u32
 }
 
 // The column or row behind `size` of them, which are 65,536 at most.
 fn end_of(z: i32, size: u32) -> u32 {
-    corner(z) + least(size as usize, 65536) as u32
+    corner(z) + size.min(65536)
 }
 
 // How many columns or rows there are from the first of two rectangles' to the last.
 fn joined_side(a: i32, a_size: u32, b: i32, b_size: u32) -> u32 {
-    let end = greatest(end_of(a, a_size), end_of(b, b_size));
-    minus(end, corner(lesser(a, b)))
+    let end = end_of(a, a_size).max(end_of(b, b_size));
+    end.saturating_sub(corner(a.min(b)))
 }
 
-// The smallest rectangle that holds those of two that are not empty.
-fn join(a: Box, b: Box) -> Box {
+// A reply with the smallest rectangle that holds those of two that are not empty.
+fn join(a: Reply, b: Reply) -> Reply {
     if a.width == 0 {
         return b;
     }
     if b.width == 0 {
         return a;
     }
-    Box {
-        code: 0,
-        left: lesser(a.left, b.left),
-        top: lesser(a.top, b.top),
+    Reply {
+        left: a.left.min(b.left),
+        top: a.top.min(b.top),
         width: joined_side(a.left, a.width, b.left, b.width),
         height: joined_side(a.top, a.height, b.top, b.height),
+        ..a
     }
-}
-
-fn batch_of(code: u32, made: u32, area: Box) -> Batch {
-    Batch {
-        code,
-        made,
-        left: area.left,
-        top: area.top,
-        width: area.width,
-        height: area.height,
-    }
-}
-
-// The reply to a batch with one more edit.
-fn with_edit(batch: Batch, edit: Box) -> Batch {
-    let made = batch.made.wrapping_add(1);
-    batch_of(0, made, join(area_of(batch), edit))
 }
 
 // Makes the entries of a batch up to the first that is refused; the reply that theirs form.
-fn make_singly(sheet: &mut [u8], list: &[u8]) -> Batch {
-    let mut batch = Batch {
-        code: 0,
-        made: 0,
-        left: 0,
-        top: 0,
-        width: 0,
-        height: 0,
-    };
-    let mut at = 0;
-    while at < list.len() {
-        let reply = make_entry(sheet, rest(list, at));
+fn make_singly(sheet: &mut [u8], list: &[u8]) -> Reply {
+    let mut batch = Reply::of_code(0);
+    for entry in Entries::of(list, |entry| 4 + entry_data_size(entry)) {
+        let reply = Reply::from(edit_of_entry(entry).make_on_sheet(sheet));
         if reply.code != 0 {
-            return batch_of(reply.code, batch.made, area_of(batch));
+            return Reply {
+                code: reply.code,
+                ..batch
+            };
         }
-        batch = with_edit(batch, reply);
-        at = after(at, entry_size(rest(list, at)), list.len());
+        batch = Reply {
+            code: 0,
+            made: batch.made.wrapping_add(1),
+            ..join(batch, reply)
+        };
     }
     batch
 }
 
 // What the fresh run makes of a batch with this reply: at 22 none of its entries, and nothing is formed.
-fn make_counted(sheet: &mut [u8], list: &[u8], reply: Batch) -> Batch {
+fn make_counted(sheet: &mut [u8], list: &[u8], reply: Reply) -> Reply {
     if reply.code == 22 {
         return reply;
     }
@@ -233,209 +154,103 @@ fn make_counted(sheet: &mut [u8], list: &[u8], reply: Batch) -> Batch {
 
 // ---- both ways
 
-// The code and the rectangle of an edit or a batch that was made both ways, and whether both replied the same.
-#[derive(Clone, Copy)]
-struct Made {
-    area: Box,
-    is_same: bool,
+// Two copies of the sheet and a frame: edits with the frame change `patched`, those on the sheet alone `fresh`.
+#[derive(Drop)]
+struct Run<'a> {
+    patched: &'a mut [u8],
+    frame: &'a mut [u8],
+    fresh: &'a mut [u8],
 }
 
-// Makes an edit both ways and writes its code.
-fn make_single(
-    out: &impl Print,
-    patched: &mut [u8],
-    frame: &mut [u8],
-    fresh: &mut [u8],
-    bytes: &[u8],
-) -> Made {
-    let reply = make_with_frame(patched, frame, bytes);
-    let other = make_on_sheet(fresh, bytes);
-    write_number(out, reply.code as u64);
-    Made {
-        area: reply,
-        is_same: same_reply(reply, other),
+fn same_or_different(is_same: bool) -> &'static str {
+    if is_same { "same" } else { "different" }
+}
+
+impl<'a> Run<'a> {
+    // Two copies of the sheet, and the page of it on a strange frame.
+    fn start(&mut self, out: &impl Print, sheet: &[u8]) {
+        store(self.patched, 0, sheet);
+        store(self.fresh, 0, sheet);
+        fill_strange(self.frame, 11);
+        let _ = println!(out; "drawing {}", station_draw(sheet, self.frame));
     }
-}
 
-// Makes a batch both ways and writes its code and how many edits were made.
-fn make_batch(
-    out: &impl Print,
-    patched: &mut [u8],
-    frame: &mut [u8],
-    fresh: &mut [u8],
-    list: &[u8],
-) -> Made {
-    let reply = station::station_edit_list(patched, frame, list);
-    let other = make_counted(fresh, list, reply);
-    write_number(out, reply.code as u64);
-    write_number(out, reply.made as u64);
-    Made {
-        area: area_of(reply),
-        is_same: same_batch(reply, other),
+    // Makes an edit or a batch both ways; the reply with the frame, and the other.
+    fn make(&mut self, bytes: &[u8]) -> (Reply, Reply) {
+        if is_batch(bytes) {
+            let list = data_of(bytes);
+            let reply = Reply::from(station_edit_list(self.patched, self.frame, list));
+            return (reply, make_counted(self.fresh, list, reply));
+        }
+        let edit = edit_of(bytes);
+        let reply = edit.make(self.patched, self.frame);
+        (
+            Reply::from(reply),
+            Reply::from(edit.make_on_sheet(self.fresh)),
+        )
     }
-}
 
-fn is_batch(bytes: &[u8]) -> bool {
-    byte_or_zero(bytes, 0) == 3
-}
-
-fn make_either(
-    out: &impl Print,
-    patched: &mut [u8],
-    frame: &mut [u8],
-    fresh: &mut [u8],
-    bytes: &[u8],
-) -> Made {
-    if is_batch(bytes) {
-        return make_batch(out, patched, frame, fresh, data_of(bytes));
+    // Whether both ways replied the same and left the same sheet; `refused` for a list that is turned down whole, of which no reply is formed.
+    fn compared(&self, reply: Reply, other: Reply) -> &'static str {
+        if reply != other {
+            return "different";
+        }
+        if self.patched[..] != self.fresh[..] {
+            return "different sheets";
+        }
+        if reply.code == 22 { "refused" } else { "same" }
     }
-    make_single(out, patched, frame, fresh, bytes)
-}
 
-fn write_area(out: &impl Print, area: Box) {
-    write_number(out, natural(area.left) as u64);
-    write_number(out, natural(area.top) as u64);
-    write_number(out, area.width as u64);
-    write_number(out, area.height as u64);
-}
-
-// Writes whether both ways replied the same and left the same sheet; `refused` for a list that is turned down whole, of which no reply is formed.
-fn write_same_edit(out: &impl Print, code: u32, is_same: bool, same_sheets: bool) {
-    if !is_same {
-        write_word(out, b" different");
-        return;
+    // Makes an edit or a batch both ways and writes what came of it, and whether the frame outside its rectangle is as it was, kept in `before`.
+    fn make_edit(&mut self, out: &impl Print, number: u64, bytes: &[u8], before: &mut [u8]) {
+        store(before, 0, self.frame);
+        let (reply, other) = self.make(bytes);
+        if is_batch(bytes) {
+            let _ = print!(out; "batch {number}: {} {}", reply.code, reply.made);
+        } else {
+            let _ = print!(out; "edit {number}: {}", reply.code);
+        }
+        let left = natural(reply.left);
+        let top = natural(reply.top);
+        let compared = self.compared(reply, other);
+        let _ = print!(out; " {left} {top} {} {} {compared}", reply.width, reply.height);
+        let w = usize::from(u16_of(rest(self.patched, 2)));
+        let kept = outside_kept(before, self.frame, w, reply);
+        let _ = println!(out; " outside {}", if kept { "kept" } else { "changed" });
     }
-    if !same_sheets {
-        write_word(out, b" different sheets");
-        return;
+
+    // Draws the edited sheet on a second strange frame, the page, and compares it and the page with what the edits left.
+    fn finish(&self, out: &impl Print, page: &mut [u8]) {
+        fill_strange(page, 100);
+        let _ = println!(out; "drawing {}", station_draw(self.fresh, page));
+        let sheets = same_or_different(self.patched[..] == self.fresh[..]);
+        let frames = same_or_different(self.frame[..] == page[..]);
+        let _ = println!(out; "sheets {sheets}\nframes {frames}");
+        let _ = println!(out; "sheet {}", checksum(0, self.patched));
+        let _ = println!(out; "frame {}", checksum(0, self.frame));
     }
-    write_either(out, code == 22, b" refused", b" same");
-}
-
-fn frame_width(sheet: &[u8]) -> usize {
-    u16_of(rest(sheet, 2)) as usize
-}
-
-// Makes an edit or a batch both ways and writes what came of it, and whether the frame outside its rectangle is as it was before.
-fn make_edit(
-    out: &impl Print,
-    patched: &mut [u8],
-    frame: &mut [u8],
-    before: &mut [u8],
-    fresh: &mut [u8],
-    bytes: &[u8],
-) {
-    store(before, 0, &frame[..]);
-    let made = make_either(out, patched, frame, fresh, bytes);
-    let area = made.area;
-    write_area(out, area);
-    write_same_edit(out, area.code, made.is_same, patched[..] == fresh[..]);
-    let kept = outside_kept(&before[..], &frame[..], frame_width(&patched[..]), area);
-    write_either(out, kept, b" outside kept\n", b" outside changed\n");
-}
-
-fn write_head(out: &impl Print, bytes: &[u8], number: u64) {
-    write_either(out, is_batch(bytes), b"batch", b"edit");
-    write_number(out, number);
-    write_word(out, b":");
-}
-
-// Makes the edits and batches of a list, each with its number at the head of its line.
-fn make_edits(
-    out: &impl Print,
-    patched: &mut [u8],
-    frame: &mut [u8],
-    before: &mut [u8],
-    fresh: &mut [u8],
-    list: &[u8],
-) {
-    let mut number = 0;
-    let mut at = 0;
-    while at < list.len() {
-        number += 1;
-        write_head(out, rest(list, at), number);
-        make_edit(out, patched, frame, before, fresh, rest(list, at));
-        at = after(at, edit_size(rest(list, at)), list.len());
-    }
-}
-
-// ---- the two runs
-
-fn write_same(out: &impl Print, text: &[u8], is_same: bool) {
-    write_word(out, text);
-    write_either(out, is_same, b" same\n", b" different\n");
-}
-
-// Two copies of the sheet, and the page of it on a strange frame.
-fn start(out: &impl Print, sheet: &[u8], patched: &mut [u8], frame: &mut [u8], fresh: &mut [u8]) {
-    store(patched, 0, sheet);
-    store(fresh, 0, sheet);
-    fill_strange(frame, 11);
-    write_line(out, b"drawing", station::station_draw(sheet, frame) as u64);
-}
-
-// Compares the edited sheets and the frames, and writes their checksums.
-fn write_outcome(out: &impl Print, patched: &[u8], fresh: &[u8], frame: &[u8], page: &[u8]) {
-    write_same(out, b"sheets", patched == fresh);
-    write_same(out, b"frames", frame == page);
-    write_line(out, b"sheet", checksum(0, patched));
-    write_line(out, b"frame", checksum(0, frame));
-}
-
-// Draws the edited sheet on a second strange frame, and compares it and the page with what the edits left.
-fn finish(out: &impl Print, patched: &[u8], frame: &[u8], fresh: &[u8], page: &mut [u8]) {
-    fill_strange(page, 100);
-    write_line(out, b"drawing", station::station_draw(fresh, page) as u64);
-    write_outcome(out, patched, fresh, frame, &page[..]);
-}
-
-// Makes the list both ways and compares what stands in the end.
-fn compare(
-    out: &impl Print,
-    sheet: &[u8],
-    list: &[u8],
-    patched: &mut [u8],
-    frame: &mut [u8],
-    before: &mut [u8],
-    fresh: &mut [u8],
-) {
-    start(out, sheet, patched, frame, fresh);
-    make_edits(out, patched, frame, before, fresh, list);
-    finish(out, &patched[..], &frame[..], &fresh[..], before);
-}
-
-// Makes the list on two sheets that are lent, and two frames.
-fn with_frames(
-    out: &impl Print,
-    sheet: &[u8],
-    list: &[u8],
-    patched: &mut [u8],
-    fresh: &mut [u8],
-    area: usize,
-)
-    requires { area ≤ 65536 }
-{
-    let mut all_frame = [0u8; 65536];
-    let mut all_before = [0u8; 65536];
-    let frame = &mut all_frame[0..area];
-    let before = &mut all_before[0..area];
-    compare(out, sheet, list, patched, frame, before, fresh);
-}
-
-// Makes the list on two sheets.
-fn with_input(out: &impl Print, input: &[u8]) {
-    let mut all_patched = [0u8; 65536];
-    let mut all_fresh = [0u8; 65536];
-    let size = length_at(input, 0);
-    let patched = &mut all_patched[0..size];
-    let fresh = &mut all_fresh[0..size];
-    let sheet = part(input, 8, size);
-    let list = rest(input, 8 + size);
-    with_frames(out, sheet, list, patched, fresh, length_at(input, 4));
 }
 
 fn main(rt: HostRuntime) {
     let mut input = [0u8; 65537];
     let n = read_full(&mut rt.stdin(), &mut input);
-    with_input(&rt, &input[..n]);
+    let input = &input[..n];
+    let size = length_at(input, 0);
+    let area = length_at(input, 4);
+    let mut patched = [0u8; 65536];
+    let mut frame = [0u8; 65536];
+    let mut before = [0u8; 65536];
+    let mut fresh = [0u8; 65536];
+    let mut run = Run {
+        patched: &mut patched[..size],
+        frame: &mut frame[..area],
+        fresh: &mut fresh[..size],
+    };
+    let before = &mut before[..area];
+    run.start(&rt, part(input, 8, size));
+    let list = Entries::of(rest(input, 8 + size), edit_size);
+    for (number, bytes) in (1..).zip(list) {
+        run.make_edit(&rt, number, bytes, before);
+    }
+    run.finish(&rt, before);
 }

@@ -1,9 +1,0 @@
--- The invariant: the index is within the bytes.
-use Rattle.std.proofs.Common.{length, ◌-◌, ◌≤◌}
-use Rattle.edit_lists.proofs.outside_kept.Given as goal
-
-abbrev pub invariant-loop-i : goal.invariant-loop-i
-invariant-loop-i l = l.i ≤ length l.before
-
-abbrev pub decreases-loop-i : goal.decreases-loop-i
-decreases-loop-i l = length l.before - l.i
