@@ -1,6 +1,14 @@
 -- The bytes before the change, those of the change and those after it are the whole.
 use Rattle.oracle_list.proofs.Laws.{changed_is}
+use Rattle.oracle_list.proofs.as_stored.Goals.{then-same_start, else-same_start}
 use Rattle.oracle_list.proofs.as_stored.Goals as goal
 
-pub returns : goal.returns
-returns c = λ t. changed_is _ _ _ _ _ _ c.length_at-at.ensures.0 c.length_at-size.ensures.0 c.part-bytes.ensures (c.same_start.ensures.0 c.if-not-same_start.false) (c.has_at.ensures.0 c.if-not-has_at.false) (c.same_end.ensures.0 t)
+pub returns-then-has_at : goal.returns-then-has_at
+returns-then-has_at c =
+    λ t. elim c.if-same_start.branch [
+      | then-same_start w ↦ changed_is _ _ _ _ _ _ c.length_at-at.ensures.0 c.length_at-size.ensures.0 c.part-bytes.ensures (c.same_start.ensures.0 w.if-same_start.true) (w.has_at.ensures.0 (cc (w.value-is, c.if-has_at.true))) (c.same_end.ensures.0 t)
+      | else-same_start w ↦ cc
+    ]
+
+pub returns-else-has_at : goal.returns-else-has_at
+returns-else-has_at c = λ t. cc (t, c.if-has_at.false)

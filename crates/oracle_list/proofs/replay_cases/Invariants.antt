@@ -1,9 +1,9 @@
--- The invariant: a case starts within the list, and there are no more cases than bytes.
-use Rattle.std.proofs.Common.{length, ◌-◌, ◌≤◌}
+-- The invariant: there are no more cases than bytes before what is left.
+use Rattle.std.proofs.Common.{length, ◌+◌, ◌≤◌}
 use Rattle.oracle_list.proofs.replay_cases.Given as goal
 
-abbrev pub invariant-loop-at : goal.invariant-loop-at
-invariant-loop-at g l = (l.number ≤ l.at) × (l.at ≤ length l.list)
+abbrev pub invariant-loop-left : goal.invariant-loop-left
+invariant-loop-left g l = l.number + length l.left ≤ length l.list
 
-abbrev pub decreases-loop-at : goal.decreases-loop-at
-decreases-loop-at g l = length l.list - l.at
+abbrev pub decreases-loop-left : goal.decreases-loop-left
+decreases-loop-left g l = length l.left
