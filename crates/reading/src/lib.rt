@@ -12,13 +12,10 @@ pub fn read_full<R: Read>(input: &mut R, bytes: &mut [u8]) -> usize
     let size = bytes.len();
     let mut done = 0;
     for _ in 0..size {
-        let Ok(n) = input.read(&mut bytes[done..]) else {
-            return done;
-        };
-        if n == 0 {
-            return done;
+        match input.read(&mut bytes[done..]) {
+            Ok(0) | Err(_) => break,
+            Ok(n) => done += n,
         }
-        done += n;
     }
     done
 }
