@@ -10,19 +10,20 @@ ghost use Rattle.mapping.specs.Entries.{WithinLimit};
 use characters::{Cursor, Step};
 use mapping::Glyph;
 use reading::read_full;
+use refusals::Refusal;
 
 // ---- what is found
 
-// The characters that a text spells, and where a sequence is not allowed, with its refusal as a new text.
+// The characters that a text spells, and where a sequence is not allowed, with its refusal as a new text. A loop over cursors, since the
+// iterator does not say where it stopped.
 fn show_text(out: &impl Print, bytes: &[u8]) {
     let mut c = Cursor { at: 0 };
     while let Step::Character(ch, after) = characters::next(bytes, c) {
         let _ = print!(out; " {ch:04x}");
         c = after;
     }
-    if c.at < bytes.len() {
-        let refusal = characters::walk(bytes, 14);
-        let _ = print!(out; " ill-formed at {}, refused {refusal}", c.at);
+    if let Err(refusal) = characters::walk(bytes, Refusal::NewTextIllFormed) {
+        let _ = print!(out; " ill-formed at {}, {refusal}", c.at);
         return;
     }
     let _ = print!(out; ", characters: {}", characters::count(bytes));
@@ -39,9 +40,8 @@ fn listed(mapping: &[u8]) -> usize
 
 // A mapping's refusal, or how many characters it lists.
 fn show_mapping(out: &impl Print, mapping: &[u8]) {
-    let refusal = mapping::check_mapping(mapping);
-    if refusal != 0 {
-        let _ = print!(out; " refused {refusal}");
+    if let Err(refusal) = mapping::check_mapping(mapping) {
+        let _ = print!(out; " {refusal}");
         return;
     }
     let _ = print!(out; " fits, lists {}", listed(mapping));
@@ -49,14 +49,13 @@ fn show_mapping(out: &impl Print, mapping: &[u8]) {
 
 // The glyph of a character in a mapping with replacement 9; index 0 and not listed in a mapping that is refused.
 fn glyph_in(mapping: &[u8], ch: u32) -> Glyph {
-    let refusal = mapping::check_mapping(mapping);
-    if refusal != 0 {
-        return Glyph {
+    match mapping::check_mapping(mapping) {
+        Ok(()) => mapping::glyph_of(mapping, 9, ch),
+        Err(_) => Glyph {
             index: 0,
             listed: false,
-        };
+        },
     }
-    mapping::glyph_of(mapping, 9, ch)
 }
 
 // The index of a character, and whether it is listed.
@@ -72,12 +71,10 @@ fn show_glyph(out: &impl Print, bytes: &[u8]) {
 
 // What the check says of a sheet.
 fn show_sheet(out: &impl Print, sheet: &[u8]) {
-    let refusal = sheet::check(sheet);
-    if refusal != 0 {
-        let _ = print!(out; " refused {refusal}");
-        return;
-    }
-    let _ = print!(out; " accepted");
+    let _ = match sheet::check(sheet) {
+        Ok(()) => print!(out; " accepted"),
+        Err(refusal) => print!(out; " {refusal}"),
+    };
 }
 
 fn show(out: &impl Print, kind: u8, bytes: &[u8]) {

@@ -38,12 +38,10 @@ fn record(file: &[u8]) -> Option<(&[u8], &[u8])>
 
 // Writes the sheet's number and what the check says of it.
 fn show_check(out: &impl Print, number: usize, sheet: &[u8]) {
-    let refusal = sheet::check(sheet);
-    if refusal == 0 {
-        let _ = println!(out; "{number} accepted");
-        return;
-    }
-    let _ = println!(out; "{number} refused {refusal}");
+    let _ = match sheet::check(sheet) {
+        Ok(()) => println!(out; "{number} accepted"),
+        Err(refusal) => println!(out; "{number} {refusal}"),
+    };
 }
 
 fn main(rt: HostRuntime) {
