@@ -1,31 +1,33 @@
 -- The loop over a list of edits: what remains of the list, made from where the loop stands, gives what the whole list gives. Assumes nothing.
-use Prim.Native.Nat.{ℕ, zero, suc, ◌+◌, ◌-◌, ◌≤◌, ◌<◌}
+use Prim.Native.Nat.{ℕ, suc, ◌+◌, ◌-◌, ◌<◌}
 use native.Mathlib.Omega.{arith}
 use mathlib.Core.Path.{◌≡◌, refl, sym, ap, ◌∙◌}
-use mathlib.Core.Bool.{true}
+use native.Mathlib.Numerals.{add-one}
+use mathlib.Core.Bool.{true, false, true≢false}
+use Rattle.std.specs.Prelude.{Ok, Err}
+use Rattle.refusals.specs.declared.Refusal.{Refusal}
+use Rattle.refusals.specs.Numbers.{number}
+use Rattle.refusals.proofs.Numbers.{not_zero}
 use mathlib.Core.List.{List, [], ◌∷◌}
-use lib.ListN.{length, drop, length-drop, drop_of_length-le}
+use lib.ListN.{length}
 use Rattle.geometry.specs.declared.Rectangle.{Rectangle}
 use Rattle.geometry.specs.Rectangle.{rectangle, join}
 use Rattle.geometry.specs.Layer.{origin}
-use Rattle.characters.specs.Refusal.{unless_refused}
 use Rattle.text.specs.Signed.{SignedRectangle, signed_rectangle}
 use Rattle.text.specs.Signed
 use Rattle.text.proofs.Signed.{signed-join, signed-origin}
 use Rattle.sheet.specs.Edits.{Edit, refusal}
-use Rattle.sheet.proofs.Acceptance.{accepted}
-use Rattle.entries.specs.Entries.{data_length, behind, edit_of, is_entry, is_filled, edits_of}
-use Rattle.entries.proofs.Entries.{filled_entry, filled-behind, edits_behind, edits_end, next_entry}
-use Rattle.changes.specs.declared.Change.{Change}
-use Rattle.changes.specs.Change.{Checked, area_of, outcome, sheet_after, frame_after}
+use Rattle.entries.specs.Entries.{behind, edit_of, is_entry, is_filled, edits_of}
+use Rattle.entries.proofs.Entries.{filled_entry, filled-behind, edits_behind, edits_end, behind_shorter}
+use Rattle.changes.specs.Change.{change_of, Checked, area_of, outcome, sheet_after, frame_after}
+use Rattle.drawing.specs.Drawing.{repainted}
 use Rattle.calls.specs.declared.Box.{Box}
 use Rattle.calls.specs.declared.Batch.{Batch}
 use Rattle.calls.specs.Machine.{Run, run_until_refused}
 use Rattle.calls.proofs.Machines.{until_end, until_made, until_refused}
 use Rattle.calls.specs.Calls.{box_area, edit_reply, Logger, patched_machine, singly, batch, zeros, batch_from, batch_of}
-use Rattle.batch.specs.declared.Made.{Made}
-use Rattle.batch.specs.Made.{made_batch, made_after, EndsNear}
-use Rattle.batch.proofs.Steps.{edit_sheet_lem, edit_frame_lem, checked_after, reply_code, reply_area, join_near, damage_near, outcome_code, area_is}
+use Rattle.batch.specs.Made.{EndsNear}
+use Rattle.batch.proofs.Steps.{edit_sheet_lem, edit_frame_lem, checked_after, reply_code, reply_area, join_near, change_near, outcome_code, area_is, frame_kept, frame_made}
 
 -- ---- the calls made singly, one entry further
 
@@ -64,37 +66,6 @@ module _ (made : ℕ) (a : SignedRectangle) (r : Box) (rs : List Box) where
   unfolding batch_from
   batch_refused n z = rw z
 
--- ---- one edit more
-
-module _ (b : List ℕ) (e : Edit) (m : Made) where
-  madeAfter-code : (made_after b e m).code ≡ refusal b e
-  unfolding made_after
-  madeAfter-code = go (refusal b e)
-    where
-      go : (n : ℕ) → (unless_refused {A = Made} n (record { code = 0; made = m.made + 1; area = join m.area (area_of b e) }) (record { code = n; made = m.made; area = m.area })).code ≡ n
-      go zero = refl
-      go (suc n) = refl
-
-  module _ (o : Change) (eo : o ≡ outcome b e) where
-    pub next_refused : (o.code ≡ 0 → ⊥) → ◌≡◌ {A = Made} (record { code = o.code; made = m.made; area = m.area }) (made_after b e m)
-    unfolding made_after
-    next_refused h =
-        let p : o.code ≡ suc (o.code - 1) = omega arith in
-        rw (sym (outcome_code b [] e o eo) ∙ p, ← p)
-
-    pub next_made : (frame : List ℕ) (j : Rectangle) → Checked b frame → o.code ≡ 0 → j ≡ join m.area o.area → ◌≡◌ {A = Made} (record { code = 0; made = m.made + 1; area = j }) (made_after b e m)
-    unfolding made_after
-    next_made frame j g z ej = rw (sym (outcome_code b frame e o eo) ∙ z) (rw (ej ∙ ap (join m.area) (area_is b frame e o eo g z)))
-
--- an entry has 4 bytes at least
-pub made_less : (b : List ℕ) (e : Edit) (m o : Made) (at n k : ℕ) → o ≡ made_after b e m → m.made ≤ at → n ≡ 4 + k → o.made ≤ at + n
-unfolding made_after
-made_less b e m o at n k q h size = rw q (go (refusal b e))
-  where
-    go : (r : ℕ) → (unless_refused {A = Made} r (record { code = 0; made = m.made + 1; area = join m.area (area_of b e) }) (record { code = r; made = m.made; area = m.area })).made ≤ at + n
-    go zero = omega arith
-    go (suc r) = omega arith
-
 -- ---- the start, and the end
 
 corner : signed_rectangle (rectangle origin origin 0 0) ≡ zeros
@@ -106,20 +77,26 @@ start_near a e = rw e (omega arith)
 pub start-batch : (a : Rectangle) (rs : List Box) → a ≡ rectangle origin origin 0 0 → batch_from 0 (signed_rectangle a) rs ≡ batch_of rs
 start-batch a rs e = ap (λ (z : SignedRectangle). batch_from 0 z rs) (ap signed_rectangle e ∙ corner)
 
-module _ (b frame list : List ℕ) (at : ℕ) (h : length list ≤ at) where
-  no_more : singly b frame (drop at list) ≡ record { state = record { sheet = b; frame = frame }; replies = [] }
+-- what is left of a filled list where no entry stands
+module _ (b frame l : List ℕ) (f : is_filled l ≡ true) (n : false ≡ is_entry l) where
+  ended : l ≡ []
+  ended = go l f n
+    where
+      go : (l : List ℕ) → is_filled l ≡ true → false ≡ is_entry l → l ≡ []
+      go [] f n = refl
+      go (x ∷ l) f n = absurd (true≢false (sym (filled_entry (x ∷ l) (omega arith) f) ∙ sym n))
+
+  no_more : singly b frame l ≡ record { state = record { sheet = b; frame = frame }; replies = [] }
   no_more =
-      ap (λ (l : List ℕ). singly b frame l) (drop_of_length-le list {i = at} h)
+      ap (λ (l : List ℕ). singly b frame l) ended
       ∙ ap (run_until_refused patched_machine (record { sheet = b; frame = frame })) edits_end
       ∙ until_end patched_machine _
 
-  pub end_batch : (m : Made) (whole : Batch) → m.code ≡ 0 → batch_from m.made (signed_rectangle m.area) (singly b frame (drop at list)).replies ≡ whole → made_batch m ≡ whole
+  pub end_batch : (made : ℕ) (a : SignedRectangle) (whole : Batch) → batch_from made a (singly b frame l).replies ≡ whole → batch 0 made a ≡ whole
   unfolding batch_from
-  end_batch m whole z q =
-      ap (λ (n : ℕ). batch n m.made (signed_rectangle m.area)) z
-      ∙ ap (λ (r : Run Logger Box). batch_from m.made (signed_rectangle m.area) r.replies) (sym no_more) ∙ q
+  end_batch made a whole q = ap (λ (r : Run Logger Box). batch_from made a r.replies) (sym no_more) ∙ q
 
-  module _ (whole : Logger) (q : (singly b frame (drop at list)).state ≡ whole) where
+  module _ (whole : Logger) (q : (singly b frame l).state ≡ whole) where
     same_end : record { sheet = b; frame = frame } ≡ whole
     same_end = ap (λ (r : Run Logger Box). r.state) (sym no_more) ∙ q
 
@@ -129,89 +106,83 @@ module _ (b frame list : List ℕ) (at : ℕ) (h : length list ≤ at) where
     pub end_frame : frame ≡ whole.frame
     end_frame = ap (λ (s : Logger). s.frame) same_end
 
--- ---- one entry of a list that is filled from there on
+-- ---- one entry of a filled list, whose edit is e
 
-module _ (list entry : List ℕ) (at : ℕ) (h : at < length list) (here : entry ≡ drop at list) (fill : is_filled (drop at list) ≡ true) where
-  pub entry_here : is_entry entry ≡ true
-  entry_here = rw here (filled_entry (drop at list) (simp length-drop (omega arith)) fill)
+module _ (b frame l : List ℕ) (g : Checked b frame) (t : true ≡ is_entry l) (e : Edit) (same : e ≡ edit_of l) where
+  here : is_entry l ≡ true
+  here = sym t
 
-  module _ (b frame : List ℕ) (g : Checked b frame) (m o : Made) (eo : o ≡ made_after b (edit_of entry) m) where
-    code_is : o.code ≡ refusal b (edit_of entry)
-    code_is = ap (λ (x : Made). x.code) eo ∙ madeAfter-code b (edit_of entry) m
+  -- it is refused
+  module _ (d : Refusal) (eo : change_of (Err d) ≡ outcome b e) where
+    refused : refusal b (edit_of l) ≡ suc (number d - 1)
+    refused =
+        let p : number d ≡ suc (number d - 1) = omega (arith, not_zero d) in
+        sym (outcome_code b frame (edit_of l) _ (eo ∙ ap (outcome b) same)) ∙ p
 
-    from-here : singly b frame (drop at list) ≡ singly b frame entry
-    from-here = ap (λ (l : List ℕ). singly b frame l) (sym here)
+    stopped : singly b frame l ≡ record { state = record { sheet = sheet_after b (edit_of l); frame = frame_after b frame (edit_of l) }; replies = edit_reply b frame (edit_of l) ∷ [] }
+    stopped = singly-refused b frame l g here (number d - 1) refused
 
-    -- it is refused
-    module _ (stop : o.code ≡ 0 → ⊥) where
-      refused : refusal b (edit_of entry) ≡ suc (o.code - 1)
-      refused = let p : o.code ≡ suc (o.code - 1) = omega arith in sym code_is ∙ p
+    pub stopped_batch : (made : ℕ) (a : SignedRectangle) (whole : Batch) → batch_from made a (singly b frame l).replies ≡ whole → batch (number d) made a ≡ whole
+    stopped_batch made a whole q =
+        let p : number d ≡ suc (number d - 1) = omega (arith, not_zero d) in
+        ap (λ (n : ℕ). batch n made a) p
+        ∙ sym (batch_refused made a (edit_reply b frame (edit_of l)) [] (number d - 1) (reply_code b frame (edit_of l) g ∙ refused))
+        ∙ ap (λ (r : Run Logger Box). batch_from made a r.replies) (sym stopped) ∙ q
 
-      stopped : singly b frame (drop at list) ≡ record { state = record { sheet = sheet_after b (edit_of entry); frame = frame_after b frame (edit_of entry) }; replies = edit_reply b frame (edit_of entry) ∷ [] }
-      stopped = from-here ∙ singly-refused b frame entry g entry_here (o.code - 1) refused
+    module _ (whole : Logger) (q : (singly b frame l).state ≡ whole) where
+      pub stopped_sheet : (s : List ℕ) → s ≡ sheet_after b e → s ≡ whole.sheet
+      stopped_sheet s es = es ∙ ap (sheet_after b) same ∙ ap (λ (r : Run Logger Box). r.state.sheet) (sym stopped) ∙ ap (λ (x : Logger). x.sheet) q
 
-      same-made : o ≡ record { code = suc (o.code - 1); made = m.made; area = m.area }
-      unfolding made_after
-      same-made = eo ∙ rw refused
+      pub stopped_frame : frame ≡ whole.frame
+      stopped_frame =
+          frame_kept b frame (edit_of l) _ (eo ∙ ap (outcome b) same) (not_zero d)
+          ∙ ap (λ (r : Run Logger Box). r.state.frame) (sym stopped) ∙ ap (λ (x : Logger). x.frame) q
 
-      pub stopped_near : EndsNear m.area → EndsNear o.area
-      stopped_near f = let e = ap (λ (x : Made). x.area) same-made in rw e f
+  -- it is made
+  module _ (a : Rectangle) (eo : change_of (Ok a) ≡ outcome b e) where
+    allowed : refusal b (edit_of l) ≡ 0
+    allowed = sym (outcome_code b frame (edit_of l) _ (eo ∙ ap (outcome b) same))
 
-      pub stopped_batch : (whole : Batch) → batch_from m.made (signed_rectangle m.area) (singly b frame (drop at list)).replies ≡ whole → made_batch o ≡ whole
-      stopped_batch whole q =
-          ap made_batch same-made
-          ∙ sym (batch_refused m.made (signed_rectangle m.area) (edit_reply b frame (edit_of entry)) [] (o.code - 1) (reply_code b frame (edit_of entry) g ∙ refused))
-          ∙ ap (λ (r : Run Logger Box). batch_from m.made (signed_rectangle m.area) r.replies) (sym stopped) ∙ q
+    made_area : a ≡ area_of b (edit_of l)
+    made_area = area_is b frame (edit_of l) _ (eo ∙ ap (outcome b) same) g refl
 
-      module _ (whole : Logger) (q : (singly b frame (drop at list)).state ≡ whole) where
-        pub stopped_sheet : (s : List ℕ) → s ≡ sheet_after b (edit_of entry) → s ≡ whole.sheet
-        stopped_sheet s es = es ∙ ap (λ (r : Run Logger Box). r.state.sheet) (sym stopped) ∙ ap (λ (x : Logger). x.sheet) q
+    pub area_near : EndsNear a
+    area_near = change_near b frame e _ eo g
 
-        pub stopped_frame : (f : List ℕ) → f ≡ frame_after b frame (edit_of entry) → f ≡ whole.frame
-        stopped_frame f ef = ef ∙ ap (λ (r : Run Logger Box). r.state.frame) (sym stopped) ∙ ap (λ (x : Logger). x.frame) q
+    pub joined_near : (m j : Rectangle) → j ≡ join m a → EndsNear m → EndsNear j
+    joined_near m j ej f = rw ej (join_near m a f area_near)
 
-    -- it is made
-    module _ (go_on : o.code ≡ 0) where
-      allowed : refusal b (edit_of entry) ≡ 0
-      allowed = sym code_is ∙ go_on
+    module _ (s f r : List ℕ) (es : s ≡ sheet_after b e) (ef : f ≡ repainted s a frame) (er : r ≡ behind l) where
+      frame-is : f ≡ frame_after b frame (edit_of l)
+      frame-is = frame_made b frame (edit_of l) _ (eo ∙ ap (outcome b) same) g refl s (es ∙ ap (sheet_after b) same) f ef
 
-      one_more : o ≡ record { code = 0; made = m.made + 1; area = join m.area (area_of b (edit_of entry)) }
-      unfolding made_after
-      one_more = eo ∙ rw allowed
+      pub checked_next : Checked s f
+      checked_next = rw (es ∙ ap (sheet_after b) same, frame-is) (checked_after b frame (edit_of l) g)
 
-      count_is : o.made ≡ suc m.made
-      count_is = omega (arith, ap (λ (x : Made). x.made) one_more)
+      next_here : singly (sheet_after b (edit_of l)) (frame_after b frame (edit_of l)) (behind l) ≡ singly s f r
+      next_here = rw (es ∙ ap (sheet_after b) same, frame-is, er)
 
-      joined_is : o.area ≡ join m.area (area_of b (edit_of entry))
-      joined_is = ap (λ (x : Made). x.area) one_more
+      further : singly b frame l ≡ record { state = (singly s f r).state; replies = edit_reply b frame (edit_of l) ∷ (singly s f r).replies }
+      further = singly-made b frame l g here allowed ∙ ap (λ (r : Run Logger Box). record { state = r.state; replies = edit_reply b frame (edit_of l) ∷ r.replies }) next_here
 
-      pub made_near : EndsNear m.area → EndsNear o.area
-      made_near f = rw joined_is (join_near m.area (area_of b (edit_of entry)) f (damage_near b _ _ _ (accepted b g.accepted) refl))
+      pub state_next : (whole : Logger) → (singly b frame l).state ≡ whole → (singly s f r).state ≡ whole
+      state_next whole q = ap (λ (r : Run Logger Box). r.state) (sym further) ∙ q
 
-      module _ (s f : List ℕ) (es : s ≡ sheet_after b (edit_of entry)) (ef : f ≡ frame_after b frame (edit_of entry)) where
-        pub checked_next : Checked s f
-        checked_next = rw (es, ef) (checked_after b frame (edit_of entry) g)
+      pub batch-next : (made : ℕ) (m j : Rectangle) (whole : Batch) → j ≡ join m a → batch_from made (signed_rectangle m) (singly b frame l).replies ≡ whole
+          → batch_from (made + 1) (signed_rectangle j) (singly s f r).replies ≡ whole
+      batch-next made m j whole ej q =
+          let rest = (singly s f r).replies in
+          let area : signed_rectangle j ≡ Signed.join (signed_rectangle m) (box_area (edit_reply b frame (edit_of l)))
+          = ap signed_rectangle (ej ∙ ap (join m) made_area) ∙ sym (signed-join m (area_of b (edit_of l))) ∙ ap (Signed.join (signed_rectangle m)) (sym (reply_area b frame (edit_of l) g allowed)) in
+          ap (λ (k : ℕ). batch_from k (signed_rectangle j) rest) (add-one made) ∙ ap (λ (z : SignedRectangle). batch_from (suc made) z rest) area
+          ∙ sym (batch_made made (signed_rectangle m) (edit_reply b frame (edit_of l)) rest (reply_code b frame (edit_of l) g ∙ allowed))
+          ∙ ap (λ (r : Run Logger Box). batch_from made (signed_rectangle m) r.replies) (sym further) ∙ q
 
-        module _ (n : ℕ) (size : n ≡ 4 + data_length entry) where
-          next_here : singly (sheet_after b (edit_of entry)) (frame_after b frame (edit_of entry)) (behind entry) ≡ singly s f (drop (at + n) list)
-          next_here = rw (← es, ← ef, ← next_entry list entry at h here n size)
+-- what stands behind an entry
 
-          further : singly b frame (drop at list) ≡ record { state = (singly s f (drop (at + n) list)).state; replies = edit_reply b frame (edit_of entry) ∷ (singly s f (drop (at + n) list)).replies }
-          further = from-here ∙ singly-made b frame entry g entry_here allowed ∙ ap (λ (r : Run Logger Box). record { state = r.state; replies = edit_reply b frame (edit_of entry) ∷ r.replies }) next_here
+module _ (l r : List ℕ) (t : true ≡ is_entry l) (er : r ≡ behind l) where
+  pub filled_next : is_filled l ≡ true → is_filled r ≡ true
+  filled_next f = ap is_filled er ∙ filled-behind l (sym t) ∙ f
 
-          pub state_next : (whole : Logger) → (singly b frame (drop at list)).state ≡ whole → (singly s f (drop (at + n) list)).state ≡ whole
-          state_next whole q = ap (λ (r : Run Logger Box). r.state) (sym further) ∙ q
-
-          pub batch-next : (whole : Batch) → batch_from m.made (signed_rectangle m.area) (singly b frame (drop at list)).replies ≡ whole
-              → batch_from o.made (signed_rectangle o.area) (singly s f (drop (at + n) list)).replies ≡ whole
-          batch-next whole q =
-              let e = edit_of entry in
-              let rest = (singly s f (drop (at + n) list)).replies in
-              let area : signed_rectangle o.area ≡ Signed.join (signed_rectangle m.area) (box_area (edit_reply b frame e))
-              = ap signed_rectangle joined_is ∙ sym (signed-join m.area (area_of b e)) ∙ ap (Signed.join (signed_rectangle m.area)) (sym (reply_area b frame e g allowed)) in
-              ap (λ (k : ℕ). batch_from k (signed_rectangle o.area) rest) count_is ∙ ap (λ (z : SignedRectangle). batch_from (suc m.made) z rest) area
-              ∙ sym (batch_made m.made (signed_rectangle m.area) (edit_reply b frame e) rest (reply_code b frame e g ∙ allowed))
-              ∙ ap (λ (r : Run Logger Box). batch_from m.made (signed_rectangle m.area) r.replies) (sym further) ∙ q
-
-          pub filled_next : is_filled (drop (at + n) list) ≡ true
-          filled_next = ap is_filled (sym (next_entry list entry at h here n size)) ∙ filled-behind entry entry_here ∙ ap is_filled here ∙ fill
+  pub less_left : length r < length l
+  less_left = rw er (behind_shorter l t)

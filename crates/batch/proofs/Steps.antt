@@ -23,8 +23,7 @@ use Rattle.drawing.specs.Drawing.{pixel_count, damage, repainted}
 use Rattle.drawing.specs.Frames.{target_of}
 use Rattle.drawing.proofs.Repainting.{same-pixel_count}
 use Rattle.drawing.proofs.Painting.{damage_canvas}
-use Rattle.changes.specs.declared.Change.{Change}
-use Rattle.changes.specs.Change.{Checked, area_of, outcome, sheet_after, frame_after}
+use Rattle.changes.specs.Change.{Change, Checked, area_of, outcome, sheet_after, frame_after}
 use Rattle.calls.specs.Calls.{box_reply, box_area, edit_code, edit_reply, edit_sheet, edit_frame}
 use Rattle.calls.specs.Replies.{CornerFits}
 use Rattle.batch.specs.Made.{EndsNear}
