@@ -13,6 +13,7 @@ use drawing::repaint;
 use entries::first_entry;
 use geometry::{ORIGIN, Rectangle};
 use refusals::Refusal;
+use sheet::Sheet;
 
 // The refusal that stopped the list, if one did, how many edits were made, and the smallest rectangle that holds theirs.
 #[derive(Clone, Copy)]
@@ -42,7 +43,7 @@ pub fn make_list(sheet: &mut [u8], frame: &mut [u8], list: &[u8]) -> Made
     while let Some((entry, behind)) = first_entry(left) {
         match change(sheet, entry.item, entry.edit) {
             Ok(repainted) => {
-                repaint(&sheet[..], frame, repainted);
+                repaint(Sheet { bytes: &sheet[..] }, frame, repainted);
                 area = area.join(repainted);
                 made += 1;
             }

@@ -53,7 +53,7 @@ impl Alignment {
 }
 
 impl<'a> TextLayout<'a> {
-    // The ink box of one line of the text, or its measured box.
+    // The ink box of one line of the text, or its measured box. A flag says which: a closure for each would state its box in a contract of its own.
     fn line_box(&self, line: &TextLine, ink: bool) -> Rectangle
         ensures { result ≡ line_box ink self.now.metrics.font (line_text self.now line.now) (placed_line self.now line.now) }
     {

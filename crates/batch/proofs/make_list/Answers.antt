@@ -12,11 +12,11 @@ loop-entry-init c = (c.requires.checked, c.requires.list_value, omega arith, sta
 pub change-requires : goal.change-requires
 change-requires c = checked_accepted _ _ c.loop-entry.invariant.0
 
-pub repaint-requires-clause-accepted : goal.repaint-requires-clause-accepted
-repaint-requires-clause-accepted c = stored_accepted _ c.loop-entry.frame _ _ c.in-Ok.ensures.value c.loop-entry.invariant.0 refl _ c.change.ensures.sheet_after
+pub invariant_of-repaint : goal.invariant_of-repaint
+invariant_of-repaint c = record { accepted = stored_accepted _ c.loop-entry.frame _ _ c.in-Ok.ensures.value c.loop-entry.invariant.0 refl _ c.change.ensures.sheet_after }
 
-pub repaint-requires-clause-canvas : goal.repaint-requires-clause-canvas
-repaint-requires-clause-canvas c = stored_canvas _ c.loop-entry.frame _ _ c.in-Ok.ensures.value c.loop-entry.invariant.0 refl _ c.change.ensures.sheet_after
+pub repaint-requires : goal.repaint-requires
+repaint-requires c = stored_canvas _ c.loop-entry.frame _ _ c.in-Ok.ensures.value c.loop-entry.invariant.0 refl _ c.change.ensures.sheet_after
 
 pub join-area-requires-clause-ends_fit_2 : goal.join-area-requires-clause-ends_fit_2
 join-area-requires-clause-ends_fit_2 c = near_ends _ (area_near _ _ _ c.loop-entry.invariant.0 c.in-Some.ensures.whole _ c.in-Some.ensures.value _ c.in-Ok.ensures.value)
