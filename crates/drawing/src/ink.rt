@@ -7,6 +7,7 @@ use geometry::Rectangle;
 use records::ItemRecord;
 
 // Whether an item starts below a clip, so that the clip does not meet its ink box; the text is not read.
+#[tactic(auto, using(crate::proofs::Readings::below_apart))]
 fn starts_below(item: ItemRecord<'_>, clip: Rectangle) -> bool
     ensures { result ≡ true → is_empty (intersection (ink_of item.entry) clip) ≡ true }
 {
@@ -18,6 +19,7 @@ fn starts_below(item: ItemRecord<'_>, clip: Rectangle) -> bool
 // Whether the clip does not meet an item's ink box; "no" may be said of one that it does not meet. The box is found only where the item's rows
 // and columns leave it open, and where the clip has not the column of its x, in or near which nearly every line stands. Of a clip that is the
 // whole frame it is only asked whether the item starts below it.
+#[tactic(auto, using(crate::proofs::Readings::item_apart, crate::proofs::Readings::item_ink_lem, crate::proofs::Painting::missed))]
 pub fn is_missed(item: ItemRecord<'_>, clip: Rectangle, whole: bool) -> bool
     ensures { result ≡ true → is_empty (intersection (ink_of item.entry) clip) ≡ true }
 {

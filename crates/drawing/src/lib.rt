@@ -46,6 +46,7 @@ fn target_of(sheet: Sheet<'_>, clip: Rectangle) -> DrawTarget
 }
 
 // The greys of a frame of the sheet's size, all of which may change.
+#[tactic(auto, using(crate::proofs::Painting::framed_canvas))]
 fn whole_frame<'a>(sheet: Sheet<'_>, greys: &'a mut [u8]) -> Frame<'a>
     requires { Framed sheet.bytes.now greys.old }
     ensures same_greys { result.greys.ghost_name ≡ greys.entry.ghost_name }
@@ -77,6 +78,7 @@ fn draw_met_item(item: ItemRecord<'_>, frame: &mut Frame, whole: bool)
 }
 
 // Draws the items in a frame's clip, in order; `whole` says that the clip is the frame, which saves the ink boxes.
+#[tactic(auto, using(crate::proofs::Painting::items_start, crate::proofs::Painting::items_step, crate::proofs::Painting::items_end))]
 fn draw_items(sheet: Sheet<'_>, frame: &mut Frame, whole: bool)
     ensures { Painted frame.old (items_layer sheet.entry.bytes.now (order sheet.entry.bytes.now)) frame.new }
 {
@@ -87,6 +89,7 @@ fn draw_items(sheet: Sheet<'_>, frame: &mut Frame, whole: bool)
 }
 
 // Paints the page's pixels in a rectangle of the frame: paper, then the items.
+#[tactic(auto, using(crate::proofs::Painting::canvas_read))]
 pub fn repaint(sheet: Sheet<'_>, frame: &mut [u8], area: Rectangle)
     requires { Canvas (target_of sheet.bytes.now area) (length frame.old) }
     ensures { frame.new ≡ repainted sheet.entry.bytes.now area frame.old }
@@ -100,6 +103,7 @@ pub fn repaint(sheet: Sheet<'_>, frame: &mut [u8], area: Rectangle)
 }
 
 // Draws the page on a frame of the sheet's size.
+#[tactic(auto, using(crate::proofs::Painting::framed_canvas, crate::proofs::Painting::fresh_painted))]
 pub fn draw(sheet: Sheet<'_>, frame: &mut [u8])
     requires { Framed sheet.bytes.now frame.old }
     ensures { frame.new ≡ fresh_drawing sheet.entry.bytes.now frame.old }

@@ -1,10 +1,7 @@
 -- Paper in the area, then the items in it, is the page in it.
 use native.Mathlib.Omega.{arith}
-use Rattle.drawing.proofs.Painting.{canvas_read, page_drawn}
+use Rattle.drawing.proofs.Painting.{page_drawn}
 use Rattle.drawing.proofs.repaint.Goals as goal
-
-pub new-frame-requires : goal.new-frame-requires
-new-frame-requires c = search canvas_read
 
 pub returns : goal.returns
 returns c =
