@@ -28,11 +28,11 @@ module _ (b : List ℕ) (n : ℕ) (t : Lent.Text) (ef : lent_font t ≡ item_fon
   unfolding item_layer
   item_painted before after p = rw (ef, et) at p
 
-  pub item-next : (replies : Bool) (p : Point) → p ≡ cond replies (next t.layout.metrics.font (lent_text t.layout)) t.layout.position → p ≡ cond replies (next (item_font b n).mono (item b n)) (item b n).position
-  item-next replies p e = e ∙ rw (← ef, ← et)
+  pub item_next : (replies : Bool) (p : Point) → p ≡ cond replies (next t.layout.metrics.font (lent_text t.layout)) t.layout.position → p ≡ cond replies (next (item_font b n).mono (item b n)) (item b n).position
+  item_next replies p e = e ∙ rw (← ef, ← et)
 
-  pub item-replaced : (replies : Bool) (m : ℕ) → m ≡ cond replies (replaced (lent_font t) (lent_text t.layout)) 0 → m ≡ cond replies (replaced (item_font b n) (item b n)) 0
-  item-replaced replies m e = rw (ef, et) at e
+  pub item_replaced : (replies : Bool) (m : ℕ) → m ≡ cond replies (replaced (lent_font t) (lent_text t.layout)) 0 → m ≡ cond replies (replaced (item_font b n) (item b n)) 0
+  item_replaced replies m e = rw (ef, et) at e
 
 -- ---- an item as it is measured
 
@@ -44,8 +44,8 @@ module _ (b : List ℕ) (n : ℕ) (t : TextLayout) (ef : t.metrics.font ≡ (ite
   pub item_apart : (r : Bool) (clip : Rectangle) → (r ≡ true → is_empty (intersection (ink_box t.metrics.font (lent_text t)) clip) ≡ true) → r ≡ true → is_empty (intersection (item_ink b n) clip) ≡ true
   item_apart r clip h e = rw (← item_ink_lem _ refl) (h e)
 
-  pub item-box : (a : Rectangle) → a ≡ bounding_box t.metrics.font (lent_text t) → a ≡ bounding_box (item_font b n).mono (item b n)
-  item-box a e = rw (et, ef) at e
+  pub item_box : (a : Rectangle) → a ≡ bounding_box t.metrics.font (lent_text t) → a ≡ bounding_box (item_font b n).mono (item b n)
+  item_box a e = rw (et, ef) at e
 
   -- whitespace at its place
   module _ (width : ℕ) where

@@ -58,6 +58,7 @@ fn whole_frame<'a>(sheet: Sheet<'_>, greys: &'a mut [u8]) -> Frame<'a>
 }
 
 // Draws an item in a frame's clip; replies its next position and how many characters are not listed, if `replies`.
+#[tactic(auto, using(crate::proofs::Readings::item_next, crate::proofs::Readings::item_replaced))]
 fn draw_item_in(item: ItemRecord<'_>, frame: &mut Frame, replies: bool) -> DrawnText
     ensures painted { Painted frame.old (layer_of item.entry) frame.new }
     ensures next_value { result.next ≡ cond replies (next (font_of item.entry).mono (text_of item.entry)) (text_of item.entry).position }
@@ -154,6 +155,7 @@ pub fn draw_whitespace(item: ItemRecord<'_>, frame: &mut [u8], width: u32) -> Po
 }
 
 // The measured box of an item.
+#[tactic(auto, using(crate::proofs::Readings::item_box))]
 pub fn bounding_box(item: ItemRecord<'_>) -> Rectangle
     ensures { result ≡ bounding_box (font_of item.entry).mono (text_of item.entry) }
 {
