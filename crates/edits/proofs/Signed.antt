@@ -2,7 +2,6 @@
 use Prim.Native.Nat.{ℕ, suc, ◌-◌, ◌≤◌, ◌<◌, ◌^◌}
 use mathlib.Core.Path.{◌≡◌, refl, ◌∙◌, ap}
 use mathlib.Core.Bool.{Bool, true, false, cond}
-use mathlib.Core.List.{List}
 use lib.Dec.{T, ltb}
 use lib.IntN.{ℤ, pos, negsuc, nat_abs, ◌+ℤ◌}
 use lib.Signed.{non_neg}
@@ -12,8 +11,7 @@ use mir.Val.{to_z, of_z, Fits, SFits}
 use mir.Facts.{to_z-of_z}
 use borrow.Author.Tests.{le-ltb, ltb-true, ltb-false}
 use Rattle.geometry.specs.Layer.{origin, signed}
-use Rattle.sheet.specs.Fields.{item_at}
-use Rattle.sheet.specs.Edits.{in_range, biased, new_place, place_refusal, refusal, put_place, edited}
+use Rattle.sheet.specs.Edits.{in_range, biased, new_place}
 
 -- the number that the code reads
 abbrev pub read : ℤ → ℤ
@@ -60,9 +58,3 @@ module _ (z : ℤ) (f : SFits w32 z) where
 module _ (i : ℕ) (x y : ℤ) (fx : SFits w32 x) (fy : SFits w32 y) where
   pub new_place_read : new_place i (read x) (read y) ≡ new_place i x y
   new_place_read = rw (to_z-of_z {z = x} fx, to_z-of_z {z = y} fy)
-
-  pub place_read : (b : List ℕ) (r : ℕ) → r ≡ place_refusal b i (read x) (read y) → r ≡ place_refusal b i x y
-  place_read b r q = q ∙ ap (refusal b) new_place_read
-
-  pub put_place_read : (b s : List ℕ) → s ≡ put_place b (item_at b i) (biased (read x)) (biased (read y)) → s ≡ put_place b (item_at b i) (biased x) (biased y)
-  put_place_read b s q = q ∙ ap (edited b) new_place_read

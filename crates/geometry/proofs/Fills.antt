@@ -6,8 +6,6 @@ use mathlib.Core.Path.{◌≡◌, refl, sym, ◌∙◌}
 use mathlib.Core.Bool.{Bool, true}
 use mathlib.Core.List.{List}
 use lib.ListN.{length, take, drop, replicate}
-use mir.Syntax.{w64}
-use mir.Val.{Fits}
 use borrow.Rule.Slice.PartMut.{put_mid}
 use Rattle.std.specs.Prelude.{Option, None, Some}
 use Rattle.geometry.specs.declared.Rectangle.{Rectangle}
@@ -37,15 +35,6 @@ fill_step fw a k grey xs frame part room p less e =
 module _ (fw n : ℕ) (a : FrameArea) (room : InFrame fw n a) where
   rows-room : (a.top * fw + a.height * fw ≤ n) × (n ≤ 262144)
   rows-room = omega (arith, room, add-mul a.top a.height fw)
-
-  pub rows_start_fits : Fits w64 (a.top * fw)
-  rows_start_fits = omega (arith, rows-room)
-
-  pub rows_height_fits : Fits w64 (a.height * fw)
-  rows_height_fits = omega (arith, rows-room)
-
-  pub rows_end_fits : Fits w64 (a.top * fw + a.height * fw)
-  rows_end_fits = omega (arith, rows-room)
 
   pub rows_end_in : a.top * fw + a.height * fw ≤ n
   rows_end_in = rows-room.0
@@ -81,6 +70,3 @@ pub fill_unset : (t : DrawTarget) (area : Rectangle) (color : Option ℕ) (xs : 
 unfolding filled
 fill_unset t area color xs e =
     rw e (sym (paint_none t.width _ xs (within_none t.clip_area (filled area None) (within_none area (λ c r grey. grey) (λ c r grey. refl)))))
-
-pub fill_set : (t : DrawTarget) (area : Rectangle) (color : Option ℕ) (grey : ℕ) (xs ys : List ℕ) → color ≡ Some grey → ys ≡ paint_on t (filled area (Some grey)) xs → ys ≡ paint_on t (filled area color) xs
-fill_set t area color grey xs ys e f = rw e f

@@ -7,7 +7,7 @@ use Rattle.geometry.specs.declared.canvas.Frame.{Frame}
 use Rattle.geometry.specs.Layer.{Layer, over, within}
 use Rattle.geometry.specs.Canvas.{paint_on}
 use Rattle.geometry.specs.Painted.{Painted}
-use Rattle.geometry.proofs.Layers.{within_same, within_over, paint-over, paint-same}
+use Rattle.geometry.proofs.Layers.{within_over, paint-over, paint-same}
 
 -- one layer painted on a draw target, then another
 pub paint_then : (t : DrawTarget) (f g : Layer) (xs ys zs : List ℕ) → ys ≡ paint_on t f xs → zs ≡ paint_on t g ys → zs ≡ paint_on t (over g f) xs
@@ -30,11 +30,3 @@ module _ (before : Frame) (layer : Layer) where
   -- another layer that makes the same greys
   pub painted_by : (other : Layer) (after : Frame) → Painted before layer after → after.greys.now ≡ paint_on before.target other before.greys.now → Painted before other after
   painted_by other after p e = record { greys = e; same_greys = p.same_greys; same_target = p.same_target }
-
-  -- a layer that is written otherwise
-  pub painted_as : (other : Layer) (after : Frame) → Painted before layer after → ((c r grey : ℕ) → layer c r grey ≡ other c r grey) → Painted before other after
-  painted_as other after p same = record {
-    greys = p.greys ∙ paint-same before.target.width _ (within before.target.clip_area other) before.greys.now (within_same before.target.clip_area layer other same);
-    same_greys = p.same_greys;
-    same_target = p.same_target;
-  }

@@ -1,7 +1,7 @@
 -- Colours: when the characters take a grey, that they paint nothing without one, and when an underline counts. Assumes nothing.
 use Prim.Native.Nat.{ℕ, ◌+◌}
 use mathlib.Core.Path.{◌≡◌, refl, ap, ◌∙◌}
-use mathlib.Core.Bool.{Bool, true, false, true≢false}
+use mathlib.Core.Bool.{Bool, false, true≢false}
 use mathlib.Mathlib.Data.Bool.Basic.{or-eq-false-eq-eq-false-and-eq-false}
 use mathlib.Core.List.{List, [], ◌∷◌}
 use Rattle.std.specs.Prelude.{Option, Some, None, is_some}
@@ -25,15 +25,6 @@ pub measured_underlined : (m : MonoFont) (s : MonoTextStyle) → (s.underline_co
     → m.underline.offset + m.underline.height ≡ measured_height m s
 unfolding measured_height
 measured_underlined m s t = rw (not_none s.underline_color t)
-
-module _ (s : MonoTextStyle) (t : Bool) (e : t ≡ is_set (text_color s)) where
-  pub painted_text : t ≡ true → true ≡ is_painted s
-  unfolding is_painted
-  painted_text h = rw (← e, h)
-
-  pub painted_background : (b : Bool) → t ≡ false → b ≡ is_set (background_color s) → b ≡ is_painted s
-  unfolding is_painted
-  painted_background b h d = rw (← e, h) d
 
 -- a colour that resolves
 pub resolved : (s : MonoTextStyle) (d : DecorationColor) (color : Option ℕ) (t : Bool) → color ≡ to_color s d → t ≡ is_some color → t ≡ is_set (to_color s d)

@@ -54,9 +54,6 @@ module _ (counts : Bool) (offset height : ℕ) where
   pub rows_counted : counts ≡ true → rectangle 0 offset 1 height ≡ rows_if counts offset height
   rows_counted e = rw e
 
-  pub rows_uncounted : counts ≡ false → rectangle 0 offset 1 0 ≡ rows_if counts offset height
-  rows_uncounted e = rw e
-
   part_low : offset ≤ 255 → height ≤ 255 → (rows_if counts offset height).top + (rows_if counts offset height).height ≤ 510
   part_low p q = go counts
     where

@@ -61,14 +61,6 @@ unlisted_few mapping (ch ∷ chs) = by (contains mapping ch) (unlisted_few mappi
 
 -- ---- columns
 
-pub clip_columns : (clip : Rectangle) (counts : Bool) → counts ≡ false → record { first = clip.left + 1; end = clip.left + clip.width } ≡ columns_of clip counts
-unfolding columns_of
-clip_columns clip counts e = rw e
-
-pub all_columns : (clip : Rectangle) (counts : Bool) → counts ≡ true → record { first = 0; end = 0xFFFFFFFF } ≡ columns_of clip counts
-unfolding columns_of
-all_columns clip counts e = rw e
-
 pub columns_cover : (clip : Rectangle) (counts : Bool) (c : Columns) → clip.left + clip.width ≤ 0xFFFFFFFF → c ≡ columns_of clip counts → Covers clip c
 unfolding columns_of
 columns_cover clip counts c limit e = rw e (by counts)

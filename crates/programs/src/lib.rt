@@ -2,14 +2,15 @@
 #![tactic(auto)]
 
 ghost use Rattle.std.specs.Prelude.{◌≡◌, ◌<◌, ◌≤◌, Some, MatchResult};
+ghost use Rattle.refusals.specs.Numbers.{number};
 ghost use Rattle.characters.specs.Refusal.{unless_refused};
 ghost use Rattle.sheet.specs.Check.{check};
 ghost use Rattle.drawing.specs.Drawing.{pixel_count};
 ghost use Rattle.programs.specs.declared.Fault.TheVariants.{Refused};
 ghost use Rattle.programs.specs.Written.{sides, words};
 
-use sheet::fields::{frame_height, frame_width};
-use station::{Batch, Box, station_check};
+use refusals::Refusal;
+use station::{Batch, Box};
 use std::fmt;
 
 // A reply's rectangle as the programs write it.
@@ -81,6 +82,14 @@ impl fmt::Display for Fault {
     }
 }
 
+impl From<Refusal> for Fault {
+    ghost from_gives = { λ refusal fault. fault ≡ Refused (number refusal) };
+
+    fn from(refusal: Refusal) -> Fault {
+        Fault::Refused(u32::from(refusal))
+    }
+}
+
 // A reply's code as a result: 0 is none that is refused.
 pub fn accepted(code: u32) -> Result<(), Fault>
     ensures { MatchResult result (λ _. code ≡ 0) (λ fault. (fault ≡ Refused code) × (0 < code)) }
@@ -107,16 +116,16 @@ pub fn write_part(rt: &HostRuntime, bytes: &[u8], k: usize, name: &str) {
     }
 }
 
-// The number of the page's pixels; 0 for a sheet that is refused.
+// The number of the page's pixels; 0 for a sheet that is refused, whose canvas is empty.
 pub fn pixel_count(sheet: &[u8]) -> usize
     ensures { (result ≡ unless_refused (check sheet.now) (pixel_count sheet.now) 0) × (result ≤ 65_536) }
 {
-    let code = station_check(sheet);
-    if code != 0 {
+    let Ok(accepted) = sheet::accepted(sheet) else {
         return 0;
-    }
-    let w = frame_width(sheet) as usize;
-    let h = frame_height(sheet) as usize;
+    };
+    let header = accepted.header();
+    let w = header.frame_width() as usize;
+    let h = header.frame_height() as usize;
     w * h
 }
 

@@ -3,10 +3,9 @@
 // feed. Where not all lines were written, standard error says so.
 #![tactic(auto)]
 
-use programs::{Fault, Sides, accepted, pixel_count, write_fault};
+use programs::{Fault, Sides, pixel_count, write_fault};
 use reading::read_full;
-use sheet::fields::item_count;
-use station::{station_bounding_box, station_check, station_draw_item};
+use station::{station_bounding_box, station_draw_item};
 use std::io;
 
 // Writes an item's line.
@@ -18,9 +17,9 @@ fn write_item(out: &impl Print, sheet: &[u8], frame: &mut [u8], item: u32) -> io
 
 // Writes a line for each item of a sheet.
 fn write_items(rt: &HostRuntime, sheet: &[u8], frame: &mut [u8]) -> Result<(), Fault> {
-    accepted(station_check(sheet))?;
+    let accepted = sheet::accepted(sheet)?;
     let mut written = true;
-    for item in 0..item_count(sheet) {
+    for item in 0..accepted.header().item_count() {
         written &= write_item(rt, sheet, frame, item).is_ok();
     }
     if !written {
