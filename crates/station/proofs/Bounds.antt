@@ -27,13 +27,12 @@ use Rattle.text.specs.Limits.{TextLimits}
 use Rattle.text.specs.Text.{Text, PlacedLine, place_line, place_lines, placed_lines, line_height, line_next, last_next, next, measured_box, bounding_box}
 use Rattle.text.proofs.Places.{start_near, height_small}
 use Rattle.text.proofs.Exact.{PlacedAt, placed_at, length_line}
-use Rattle.sheet.specs.Fields.{le16_at, coordinate, item_at, font_at, font_number}
-use Rattle.records.specs.Records.{mono_font, font, mono_text_style, text_style, item_of, item, item_font}
+use Rattle.sheet.specs.Fields.{le16_at, coordinate, item_at, font_at, font_number, text_bytes}
+use Rattle.records.specs.Records.{mono_font, font, text_style, item_of, item, item_font}
 use Rattle.sheet.specs.Requires.{ItemListed}
 use Rattle.sheet.proofs.Bytes.{le16_at_small}
-use Rattle.records.proofs.Readings.{font_limits_lem, font_listed}
+use Rattle.records.proofs.Readings.{font_limits_lem, font_listed, item_limits_lem as read_limits}
 use Rattle.drawing.specs.Drawing.{whitespace_next}
-use Rattle.drawing.proofs.Readings.{item_read}
 use Rattle.calls.specs.Replies.{PointFits, CornerFits}
 
 length-lines : (s : List ℕ) → length (lines s) ≤ suc (length s)
@@ -134,8 +133,7 @@ module _ (b : List ℕ) (n : ℕ) (bytes : (k : ℕ) → Fits w8 (get_or b k 0))
   unfolding item item_of item_font font
   item_limits_lem =
       let o = item_at b n in
-      let k = font_number b o in
-      (item_read b n k (mono_font b (font_at k)) (item_of b o).position (mono_text_style b o) (text_style b o) g refl refl item-font-limits refl (le16_at_near b o bytes) (le16_at_near b (o + 2) bytes) refl refl).text_limits
+      read_limits b n (text_bytes b o) (item_of b o).position (text_style b o) g refl (le16_at_near b o bytes) (le16_at_near b (o + 2) bytes) refl
 
   pub item_next_fits : (p : Point) → p ≡ next (item_font b n).mono (item b n) → PointFits p
   item_next_fits p e = rw e (next_fits (item_font b n).mono (item b n) item-font-limits item_limits_lem)
@@ -146,3 +144,18 @@ module _ (b : List ℕ) (n : ℕ) (bytes : (k : ℕ) → Fits w8 (get_or b k 0))
   pub whitespace_next-fits : (width : ℕ) (p : Point) → width ≤ 65_535 → p ≡ whitespace_next (item b n) width → PointFits p
   unfolding whitespace_next
   whitespace_next-fits width p h e = rw e (record { x = omega (arith, item_limits_lem.near_x); y = omega (arith, item_limits_lem.near_y) })
+
+-- ---- the same of the sheet that a call has checked
+
+module _ (b c : List ℕ) (n : ℕ) (bytes : (k : ℕ) → Fits w8 (get_or b k 0)) (same : c ≡ b) (g : ItemListed c n) where
+  checked-bytes : (k : ℕ) → Fits w8 (get_or c k 0)
+  checked-bytes k = rw same (bytes k)
+
+  pub checked_next_fits : (p : Point) → p ≡ next (item_font c n).mono (item c n) → PointFits p
+  checked_next_fits = item_next_fits c n checked-bytes g
+
+  pub checked_box_fits : (a : Rectangle) → a ≡ bounding_box (item_font c n).mono (item c n) → CornerFits a
+  checked_box_fits = item_box_fits c n checked-bytes g
+
+  pub checked_whitespace_fits : (width : ℕ) (p : Point) → width ≤ 65_535 → p ≡ whitespace_next (item c n) width → PointFits p
+  checked_whitespace_fits = whitespace_next-fits c n checked-bytes g

@@ -1,12 +1,15 @@
 -- The outcome of each call, one law for each way out: refused, or what is done where the code is 0. Assumes nothing.
-use Prim.Native.Nat.{ℕ, zero, suc, ◌-◌}
+use Prim.Native.Nat.{ℕ, suc, ◌-◌, ◌≤◌}
 use native.Mathlib.Omega.{arith}
-use mathlib.Core.Path.{◌≡◌, refl, sym, ap, ◌∙◌}
-use mathlib.Core.Bool.{Bool}
+use mathlib.Core.Path.{◌≡◌, refl, sym, ap, ap₂, ◌∙◌}
+use mathlib.Core.Bool.{Bool, true, false}
 use mathlib.Core.List.{List, ◌++◌}
 use lib.ListN.{length, drop}
 use mir.Syntax.{w32}
-use mir.Val.{Fits}
+use mir.Val.{Fits, bool_byte}
+use Rattle.refusals.specs.declared.Refusal.{Refusal}
+use Rattle.refusals.specs.Numbers.{number}
+use Rattle.refusals.proofs.Numbers.{not_zero}
 use Rattle.geometry.specs.declared.Point.{Point}
 use Rattle.geometry.specs.declared.Rectangle.{Rectangle}
 use Rattle.characters.specs.declared.Cursor.{Cursor}
@@ -14,16 +17,18 @@ use Rattle.characters.specs.declared.Step as Characters
 use Rattle.characters.specs.declared.Step.TheVariants.{Character, IllFormed, End}
 use Rattle.characters.specs.Refusal.{unless_refused}
 use Rattle.characters.specs.Utf8.{step_at}
-use Rattle.mapping.specs.Entries.{WithinLimit}
 use Rattle.mapping.specs.declared.Glyph as Mapping
 use Rattle.mapping.specs.Mapping.{glyph, contains}
-use Rattle.line.specs.declared.MonoFont.{MonoFont}
-use Rattle.sheet.specs.Fields.{frame_width, frame_height, font_at, mapping_bytes}
-use Rattle.bdf.specs.declared.Outcome.{Outcome}
-use Rattle.bdf.specs.declared.Outcome.TheVariants.{Refused, Written}
-use Rattle.bdf.specs.Font.{font_of, font_bytes, read_code, outcome_of, outcome}
-use Rattle.records.specs.Records.{mono_font, font}
-use Rattle.drawing.proofs.Readings.{mapping_limit}
+use Rattle.line.specs.Line
+use Rattle.line.specs.declared.fonts.Font as Lent
+use Rattle.line.specs.Lent.{lent}
+use Rattle.text.specs.Text.{next, replaced, bounding_box}
+use Rattle.geometry.specs.Layer.{paint}
+use Rattle.sheet.specs.Fields.{frame_width, frame_height}
+use Rattle.bdf.specs.Font.{font_of, font_bytes, read_code}
+use Rattle.records.specs.Records.{font, item, item_font}
+use Rattle.drawing.specs.Drawing.{item_layer, fresh_drawing, whitespace_layer, whitespace_next}
+use Rattle.drawing.specs.Frames.{Framed}
 use Rattle.calls.specs.declared.Number.{Number}
 use Rattle.calls.specs.declared.Glyph.{Glyph}
 use Rattle.calls.specs.declared.Position.{Position}
@@ -32,119 +37,136 @@ use Rattle.calls.specs.declared.Box.{Box}
 use Rattle.calls.specs.declared.Step.{Step}
 use Rattle.page.specs.Page.{page_header}
 use Rattle.page.specs.Room.{PageFits}
-use Rattle.calls.specs.Calls.{netpbm, number_reply, position_reply, drawn_reply, box_reply, yes_no, glyph_reply, font_code, index_reply, contains_reply, page_code, page_reply, page_output, read_bdf_reply, step_reply, walk_reply}
+use Rattle.calls.specs.Calls.{netpbm, number_reply, position_reply, drawn_reply, box_reply, yes_no, glyph_reply, font_code, index_reply, contains_reply, item_code, bounding_box_reply, draw_item_code, draw_item_reply, draw_item_frame, whitespace_code, whitespace_reply, whitespace_frame, draw_code, draw_frame, page_code, page_reply, page_output, read_bdf_reply, step_reply, walk_reply}
 use Rattle.calls.specs.Replies.{refused_number, refused_glyph, refused_position, refused_drawn, refused_box}
 use Rattle.page.proofs.Pages.{length_page_le}
-use Rattle.calls.proofs.Refusals.{font_listed, page_framed, page_accepted, page_in}
 
--- ---- a refused call, and one that is not: n is the code
+-- ---- a refused call
 
-positive : (n : ℕ) → (n ≡ 0 → ⊥) → n ≡ suc (n - 1)
-positive n h = omega arith
+module _ (d : Refusal) (code : ℕ) (e : number d ≡ code) where
+  positive : number d ≡ suc (number d - 1)
+  positive = omega (arith, not_zero d)
 
-module _ (n code : ℕ) (e : n ≡ code) where
-  pub kept : {A : Type 0} (good before : A) → (n ≡ 0 → ⊥) → before ≡ unless_refused code good before
-  kept good before h = rw (← e, positive n h)
+  pub kept : {A : Type 0} (good before : A) → before ≡ unless_refused code good before
+  kept good before = rw (← e, positive)
 
-  pub done : {A : Type 0} (r good before : A) → n ≡ 0 → r ≡ good → r ≡ unless_refused code good before
-  done r good before z q = rw (← e, z) q
-
-  pub number_refused : (r : Number) (v : ℕ) → (n ≡ 0 → ⊥) → r ≡ refused_number n → r ≡ number_reply code v
+  pub number_refused : (r : Number) (v : ℕ) → r ≡ refused_number (number d) → r ≡ number_reply code v
   unfolding number_reply
-  number_refused r v h q = q ∙ rw (← e, positive n h)
+  number_refused r v q = q ∙ rw (← e, positive)
 
-  pub glyph_refused : (r : Glyph) (g : Mapping.Glyph) → (n ≡ 0 → ⊥) → r ≡ refused_glyph n → r ≡ glyph_reply code g
+  pub glyph_refused : (r : Glyph) (g : Mapping.Glyph) → r ≡ refused_glyph (number d) → r ≡ glyph_reply code g
   unfolding glyph_reply
-  glyph_refused r g h q = q ∙ rw (← e, positive n h)
+  glyph_refused r g q = q ∙ rw (← e, positive)
 
-  pub position_refused : (r : Position) (p : Point) → (n ≡ 0 → ⊥) → r ≡ refused_position n → r ≡ position_reply code p
+  pub position_refused : (r : Position) (p : Point) → r ≡ refused_position (number d) → r ≡ position_reply code p
   unfolding position_reply
-  position_refused r p h q = q ∙ rw (← e, positive n h)
+  position_refused r p q = q ∙ rw (← e, positive)
 
-  pub drawn_refused : (r : Drawn) (p : Point) (k : ℕ) → (n ≡ 0 → ⊥) → r ≡ refused_drawn n → r ≡ drawn_reply code p k
+  pub drawn_refused : (r : Drawn) (p : Point) (k : ℕ) → r ≡ refused_drawn (number d) → r ≡ drawn_reply code p k
   unfolding drawn_reply
-  drawn_refused r p k h q = q ∙ rw (← e, positive n h)
+  drawn_refused r p k q = q ∙ rw (← e, positive)
 
-  pub box_refused : (r : Box) (a : Rectangle) → (n ≡ 0 → ⊥) → r ≡ refused_box n → r ≡ box_reply code a
+  pub box_refused : (r : Box) (a : Rectangle) → r ≡ refused_box (number d) → r ≡ box_reply code a
   unfolding box_reply
-  box_refused r a h q = q ∙ rw (← e, positive n h)
+  box_refused r a q = q ∙ rw (← e, positive)
 
-  pub number_done : (value v : ℕ) → n ≡ 0 → value ≡ v → ◌≡◌ {A = Number} (record { code = 0; value = value }) (number_reply code v)
+-- ---- a call that is not refused: c is the sheet that it has checked
+
+module _ (code : ℕ) (z : 0 ≡ code) where
+  pub done : {A : Type 0} (r good before : A) → r ≡ good → r ≡ unless_refused code good before
+  done r good before q = rw (← z) q
+
+  pub number_done : (value v : ℕ) → value ≡ v → ◌≡◌ {A = Number} (record { code = 0; value = value }) (number_reply code v)
   unfolding number_reply
-  number_done value v z q = rw (← e, z, q)
+  number_done value v q = rw (← z, q)
 
-  pub position_done : (r : Position) (p q : Point) → n ≡ 0 → r ≡ position_reply 0 p → p ≡ q → r ≡ position_reply code q
-  position_done r p q z h d = rw (← e, z, ← d) h
+module _ (b c : List ℕ) (n : ℕ) (same : c ≡ b) where
+  pub box_replied : (r : Box) (a : Rectangle) → 0 ≡ item_code b n → r ≡ box_reply 0 a → a ≡ bounding_box (item_font c n).mono (item c n) → r ≡ bounding_box_reply b n
+  unfolding bounding_box_reply
+  box_replied r a z q e = rw (← z, ← same, ← e) q
 
-  pub drawn_done : (r : Drawn) (p q : Point) (j k : ℕ) → n ≡ 0 → r ≡ drawn_reply 0 p j → p ≡ q → j ≡ k → r ≡ drawn_reply code q k
-  drawn_done r p q j k z h d c = rw (← e, z, ← d, ← c) h
+  module _ (frame : List ℕ) where
+    module _ (z : 0 ≡ draw_item_code b frame n) where
+      pub item_replied : (r : Drawn) (p : Point) (k : ℕ) → r ≡ drawn_reply 0 p k → p ≡ next (item_font c n).mono (item c n) → k ≡ replaced (item_font c n) (item c n) → r ≡ draw_item_reply b frame n
+      unfolding draw_item_reply
+      item_replied r p k q ep ek = rw (← z, ← same, ← ep, ← ek) q
 
-  pub box_done : (r : Box) (a d : Rectangle) → n ≡ 0 → r ≡ box_reply 0 a → a ≡ d → r ≡ box_reply code d
-  box_done r a d z q f = rw (← e, z, ← f) q
+      pub item_drawn : (f : List ℕ) → f ≡ paint (frame_width c) (item_layer c n) frame → f ≡ draw_item_frame b frame n
+      unfolding draw_item_frame
+      item_drawn f q = rw (← z, ← same) q
+
+    module _ (width : ℕ) (z : 0 ≡ whitespace_code b frame n width) where
+      pub whitespace_replied : (r : Position) (p : Point) → r ≡ position_reply 0 p → p ≡ whitespace_next (item c n) width → r ≡ whitespace_reply b frame n width
+      unfolding whitespace_reply
+      whitespace_replied r p q ep = rw (← z, ← same, ← ep) q
+
+      pub whitespace_drawn : (f : List ℕ) → f ≡ paint (frame_width c) (whitespace_layer (item_font c n).mono (item c n) width) frame → f ≡ whitespace_frame b frame n width
+      unfolding whitespace_frame
+      whitespace_drawn f q = rw (← z, ← same) q
+
+pub page_drawn : (b c frame f : List ℕ) → c ≡ b → 0 ≡ draw_code b frame → f ≡ fresh_drawing c frame → f ≡ draw_frame b frame
+unfolding draw_frame
+page_drawn b c frame f same z q = rw (← z, ← same) q
 
 -- ---- station_index, station_contains
 
-module _ (b : List ℕ) (k n : ℕ) (e : n ≡ font_code b k) (z : n ≡ 0) (m : List ℕ) (em : m ≡ mapping_bytes b (font_at k)) where
-  pub mapping_within : WithinLimit m
-  mapping_within = mapping_limit b k k m (font_listed b n z k e) em
+told : (t : Bool) → bool_byte t ≡ yes_no t
+told true = refl
+told false = refl
 
-  pub index_done : (mono : MonoFont) (ch v : ℕ) (g : Mapping.Glyph) → mono ≡ mono_font b (font_at k) → g ≡ glyph m mono.replacement_index ch → v ≡ yes_no g.listed
+module _ (b c : List ℕ) (k : ℕ) (same : c ≡ b) (z : 0 ≡ font_code b k) (f : Lent.Font) (ef : lent f ≡ font c k) where
+  mapping-is : f.mapping.now ≡ (font b k).mapping
+  mapping-is = ap (λ (x : Line.Font). x.mapping) ef ∙ ap (λ (s : List ℕ). (font s k).mapping) same
+
+  replacement-is : f.metrics.font.replacement_index ≡ (font b k).mono.replacement_index
+  replacement-is = ap (λ (x : Line.Font). x.mono.replacement_index) ef ∙ ap (λ (s : List ℕ). (font s k).mono.replacement_index) same
+
+  pub index_done : (ch v : ℕ) (g : Mapping.Glyph) → g ≡ glyph f.mapping.now f.metrics.font.replacement_index ch → v ≡ bool_byte g.listed
       → ◌≡◌ {A = Glyph} (record { code = 0; index = g.index; listed = v }) (index_reply b k ch)
-  unfolding index_reply glyph_reply font
-  index_done mono ch v g en q d = rw (d, q, em, en, ← e, z)
+  unfolding index_reply glyph_reply
+  index_done ch v g q d =
+      let same-glyph : g ≡ glyph (font b k).mapping (font b k).mono.replacement_index ch = q ∙ ap₂ (λ (m : List ℕ) (r : ℕ). glyph m r ch) mapping-is replacement-is in
+      let good : ◌≡◌ {A = Glyph} (record { code = 0; index = g.index; listed = v }) (glyph_reply 0 g) = rw (d ∙ told g.listed) in
+      good ∙ ap₂ glyph_reply z same-glyph
 
-  pub contains_done : (ch v : ℕ) (t : Bool) → t ≡ contains m ch → v ≡ yes_no t → ◌≡◌ {A = Number} (record { code = 0; value = v }) (contains_reply b k ch)
-  unfolding contains_reply font
-  contains_done ch v t q d = number_done n (font_code b k) e v _ z (rw (d, q, em))
+  pub contains_done : (ch v : ℕ) (t : Bool) → t ≡ contains f.mapping.now ch → v ≡ bool_byte t → ◌≡◌ {A = Number} (record { code = 0; value = v }) (contains_reply b k ch)
+  unfolding contains_reply
+  contains_done ch v t q d = number_done (font_code b k) z v _ (d ∙ told t ∙ ap yes_no (q ∙ ap (λ (m : List ℕ). contains m ch) mapping-is))
 
 -- ---- station_write_page
 
-module _ (b frame output : List ℕ) (n w h : ℕ) (e : n ≡ page_code b frame output) (z : n ≡ 0) (ew : w ≡ frame_width b) (eh : h ≡ frame_height b) where
-  same-page : page_header w h ++ frame ≡ netpbm b frame
+module _ (b c frame output : List ℕ) (same : c ≡ b) (w h : ℕ) (ew : w ≡ frame_width c) (eh : h ≡ frame_height c) where
+  same-page : page_header w h ++ frame ≡ netpbm c frame
   unfolding netpbm
   same-page = rw (ew, eh)
 
-  pub page_room : PageFits w h frame output
-  page_room =
-      let g = (page_accepted b frame n z output e).laid_out.headed in
-      record { width = omega (arith, g.width_most); height = omega (arith, g.height_most); room = rw same-page (page_in b frame n z output e) }
+  pub page_room : Framed c frame → length (netpbm c frame) ≤ length output → PageFits w h frame output
+  page_room f room =
+      let g = f.accepted.laid_out.headed in
+      record { width = omega (arith, g.width_most); height = omega (arith, g.height_most); room = rw same-page room }
 
   module _ (len : ℕ) (el : len ≡ length (page_header w h ++ frame)) where
-    pub page_short : Fits w32 len
-    page_short =
-        let f = page_framed b frame n z output e in
-        record { fits = omega (arith, length_page_le w h frame, f.sized, f.accepted.laid_out.headed.area) }
+    pub page_short : Framed c frame → Fits w32 len
+    page_short f = record { fits = omega (arith, length_page_le w h frame, f.sized, f.accepted.laid_out.headed.area) }
 
-    pub page_replied : ◌≡◌ {A = Number} (record { code = 0; value = len }) (page_reply b frame output)
+    pub page_replied : 0 ≡ page_code b frame output → ◌≡◌ {A = Number} (record { code = 0; value = len }) (page_reply b frame output)
     unfolding page_reply
-    page_replied = number_done n (page_code b frame output) e len _ z (el ∙ ap length same-page)
+    page_replied z = number_done (page_code b frame output) z len _ (el ∙ ap length same-page ∙ ap (λ (s : List ℕ). length (netpbm s frame)) same)
 
-  pub page_output_lem : (out : List ℕ) → out ≡ (page_header w h ++ frame) ++ drop (length (page_header w h ++ frame)) output → out ≡ page_output b frame output
+  pub page_written : (out : List ℕ) → 0 ≡ page_code b frame output → out ≡ (page_header w h ++ frame) ++ drop (length (page_header w h ++ frame)) output → out ≡ page_output b frame output
   unfolding page_output
-  page_output_lem out q = done n (page_code b frame output) e out _ output z (q ∙ rw same-page)
+  page_written out z q = done (page_code b frame output) z out _ output (q ∙ rw (same-page, same))
 
 -- ---- station_read_bdf
 
--- the reply that says what reading a file came to
-abbrev outcome_reply : Outcome → Number
-outcome_reply (Refused code) = refused_number code
-outcome_reply (Written size) = record { code = 0; value = size }
+module _ (file : List ℕ) (n : ℕ) where
+  pub read_refused : (d : Refusal) (r : Number) → number d ≡ read_code file n → r ≡ refused_number (number d) → r ≡ read_bdf_reply file n
+  unfolding read_bdf_reply
+  read_refused d r e q = number_refused d (read_code file n) e r _ q
 
-outcome_reply_lem : (code size : ℕ) → outcome_reply (outcome_of code size) ≡ number_reply code size
-unfolding number_reply
-outcome_reply_lem zero size = refl
-outcome_reply_lem (suc n) size = refl
-
-module _ (file : List ℕ) (n : ℕ) (o : Outcome) (e : o ≡ outcome file n) where
-  read-reply : (o' : Outcome) → o ≡ o' → outcome_reply o' ≡ read_bdf_reply file n
-  unfolding read_bdf_reply outcome
-  read-reply o' q = ap outcome_reply (sym q ∙ e) ∙ outcome_reply_lem (read_code file n) (length (font_bytes (font_of file)))
-
-  pub read_refused : (code : ℕ) (r : Number) → o ≡ Refused code → r ≡ refused_number code → r ≡ read_bdf_reply file n
-  read_refused code r q d = d ∙ read-reply (Refused code) q
-
-  pub read_written : (size : ℕ) → o ≡ Written size → ◌≡◌ {A = Number} (record { code = 0; value = size }) (read_bdf_reply file n)
-  read_written size q = read-reply (Written size) q
+  pub read_written : (size : ℕ) → 0 ≡ read_code file n → size ≡ length (font_bytes (font_of file)) → ◌≡◌ {A = Number} (record { code = 0; value = size }) (read_bdf_reply file n)
+  unfolding read_bdf_reply
+  read_written size z q = number_done (read_code file n) z size _ q
 
 -- ---- station_walk
 
@@ -157,9 +179,9 @@ module _ (line : List ℕ) (at : ℕ) (s : Characters.Step) (e : s ≡ step_at l
   unfolding step_reply
   walk_character ch c q = walked (Character ch c) q
 
-  pub walk_ill_formed : s ≡ IllFormed → ◌≡◌ {A = Step} (record { code = 10; ended = 0; character = 0; next = 0 }) (walk_reply line at)
+  pub walk_ill_formed : (n : ℕ) → n ≡ 10 → s ≡ IllFormed → ◌≡◌ {A = Step} (record { code = n; ended = 0; character = 0; next = 0 }) (walk_reply line at)
   unfolding step_reply
-  walk_ill_formed q = walked IllFormed q
+  walk_ill_formed n e q = rw e (walked IllFormed q)
 
   pub walk_end : s ≡ End → ◌≡◌ {A = Step} (record { code = 0; ended = 1; character = 0; next = at }) (walk_reply line at)
   unfolding step_reply

@@ -289,7 +289,7 @@ one_list b frame list z = record {
 }
   where
     g : Checked b frame
-    g = list_checked b frame list 0 (sym z) refl
+    g = list_checked b frame list (sym z)
 
     corner : signed_rectangle (rectangle origin origin 0 0) ≡ zeros
     corner = rw (signed-origin 0)

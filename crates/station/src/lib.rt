@@ -5,50 +5,57 @@
 ghost use Rattle.std.specs.Prelude.{◌≡◌, length};
 ghost use Rattle.sheet.specs.Check.{check};
 ghost use Rattle.sheet.specs.Edits.{new_text, new_place, new_style};
+ghost use Rattle.sheet.specs.OfItem.{of_item};
 ghost use Rattle.bdf.specs.Font.{written};
 ghost use Rattle.calls.specs.Calls.{index_reply, contains_reply, bounding_box_reply, draw_item_reply, draw_item_frame, whitespace_reply, whitespace_frame, draw_code, draw_frame, edit_reply, edit_sheet, edit_frame, edit_list_reply, edit_list_sheet, edit_list_frame, on_sheet_reply, on_sheet_sheet, page_reply, page_output, read_bdf_reply, walk_reply};
 
 use batch::make_list;
-use bdf::Outcome;
-use calls::batches::{batch_reply, refused_batch};
+use calls::batches::batch_reply;
 use calls::codes::{
     draw_item_code, font_code, frame_code, item_code, list_code, page_code, whitespace_code,
 };
-use calls::replies::{
-    box_reply, drawn_reply, edit_reply, position_reply, refused_box, refused_drawn, refused_glyph,
-    refused_number, refused_position, yes_no,
-};
+use calls::replies::{box_reply, drawn_reply, position_reply};
 pub use calls::{Batch, Box, Drawn, Glyph, Number, Position, Step};
-use changes::{change_place, change_style, change_text};
+use changes::change;
 use characters::Step as Walked;
 use characters::walker::walk_from;
 use drawing::repaint;
 use page::write_page;
-use records::{font_at, mapping_bytes};
-use sheet::fields::{frame_height, frame_width};
+use records::{FontRecord, ItemRecord};
+use refusals::Refusal;
+use sheet::Sheet;
+use sheet::edit::Edit;
 
 // The number of the sheet's first refusal, or 0 for a sheet that is accepted.
 pub fn station_check(sheet: &[u8]) -> u32
     ensures { result ≡ check sheet.now }
 {
-    sheet::check(sheet)
+    match sheet::check(sheet) {
+        Ok(()) => 0,
+        Err(refusal) => u32::from(refusal),
+    }
 }
 
 // The index of a character's glyph in a font, and 1 if the font's mapping lists the character, else 0.
 pub fn station_index(sheet: &[u8], font: u32, character: u32) -> Glyph
     ensures { result ≡ index_reply sheet.now font character }
 {
-    let code = font_code(sheet, font);
-    if code != 0 {
-        return refused_glyph(code);
-    }
-    let mono = font_at(sheet, font);
-    let mapping = mapping_bytes(sheet, font);
-    let glyph = mapping::glyph_of(mapping, mono.replacement_index, character);
-    Glyph {
-        code: 0,
-        index: glyph.index,
-        listed: yes_no(glyph.listed),
+    match font_code(sheet, font) {
+        Err(refusal) => Glyph::from(refusal),
+        Ok(sheet) => {
+            let record = FontRecord {
+                sheet,
+                number: font,
+            };
+            let font = record.font();
+            let replacement = font.metrics.font.replacement_index;
+            let glyph = mapping::glyph_of(font.mapping, replacement, character);
+            Glyph {
+                code: 0,
+                index: glyph.index,
+                listed: u32::from(glyph.listed),
+            }
+        }
     }
 }
 
@@ -56,25 +63,36 @@ pub fn station_index(sheet: &[u8], font: u32, character: u32) -> Glyph
 pub fn station_contains(sheet: &[u8], font: u32, character: u32) -> Number
     ensures { result ≡ contains_reply sheet.now font character }
 {
-    let code = font_code(sheet, font);
-    if code != 0 {
-        return refused_number(code);
+    match font_code(sheet, font) {
+        Err(refusal) => Number::from(refusal),
+        Ok(sheet) => {
+            let record = FontRecord {
+                sheet,
+                number: font,
+            };
+            let font = record.font();
+            Number {
+                code: 0,
+                value: u32::from(mapping::contains(font.mapping, character)),
+            }
+        }
     }
-    let mapping = mapping_bytes(sheet, font);
-    let value = yes_no(mapping::contains(mapping, character));
-    Number { code: 0, value }
 }
 
 // The measured box of an item.
 pub fn station_bounding_box(sheet: &[u8], item: u32) -> Box
     ensures { result ≡ bounding_box_reply sheet.now item }
 {
-    let code = item_code(sheet, item);
-    if code != 0 {
-        return refused_box(code);
+    match item_code(sheet, item) {
+        Err(refusal) => Box::from(refusal),
+        Ok(sheet) => {
+            let record = ItemRecord {
+                sheet,
+                number: item,
+            };
+            box_reply(drawing::bounding_box(record))
+        }
     }
-    let area = drawing::bounding_box(sheet, item);
-    box_reply(area)
 }
 
 // Draws an item on the frame; gives the next position, and how many characters of its lines the font's mapping does not list.
@@ -82,13 +100,17 @@ pub fn station_draw_item(sheet: &[u8], frame: &mut [u8], item: u32) -> Drawn
     ensures value { result ≡ draw_item_reply sheet.now frame.old item }
     ensures frame_after { frame.new ≡ draw_item_frame sheet.now frame.old item }
 {
-    let code = draw_item_code(sheet, &frame[..], item);
-    if code != 0 {
-        return refused_drawn(code);
+    match draw_item_code(sheet, &frame[..], item) {
+        Err(refusal) => Drawn::from(refusal),
+        Ok(sheet) => {
+            let record = ItemRecord {
+                sheet,
+                number: item,
+            };
+            let drawn = drawing::draw_item(record, frame);
+            drawn_reply(drawn.next, drawn.replaced)
+        }
     }
-    let drawn = drawing::draw_item(sheet, frame, item);
-    let next = drawn.next;
-    drawn_reply(next, drawn.replaced)
 }
 
 // Draws whitespace of a width at an item's place on the frame; gives the next position.
@@ -96,12 +118,16 @@ pub fn station_draw_whitespace(sheet: &[u8], frame: &mut [u8], item: u32, width:
     ensures value { result ≡ whitespace_reply sheet.now frame.old item width }
     ensures frame_after { frame.new ≡ whitespace_frame sheet.now frame.old item width }
 {
-    let code = whitespace_code(sheet, &frame[..], item, width);
-    if code != 0 {
-        return refused_position(code);
+    match whitespace_code(sheet, &frame[..], item, width) {
+        Err(refusal) => Position::from(refusal),
+        Ok(sheet) => {
+            let record = ItemRecord {
+                sheet,
+                number: item,
+            };
+            position_reply(drawing::draw_whitespace(record, frame, width))
+        }
     }
-    let next = drawing::draw_whitespace(sheet, frame, item, width);
-    position_reply(next)
 }
 
 // Draws the page on the frame.
@@ -109,12 +135,31 @@ pub fn station_draw(sheet: &[u8], frame: &mut [u8]) -> u32
     ensures value { result ≡ draw_code sheet.now frame.old }
     ensures frame_after { frame.new ≡ draw_frame sheet.now frame.old }
 {
-    let code = frame_code(sheet, &frame[..]);
-    if code != 0 {
-        return code;
+    match frame_code(sheet, &frame[..]) {
+        Err(refusal) => u32::from(refusal),
+        Ok(sheet) => {
+            drawing::draw(sheet, frame);
+            0
+        }
     }
-    drawing::draw(sheet, frame);
-    0
+}
+
+// Edits an item, and repaints its damage rectangle, which it gives.
+fn edited(sheet: &mut [u8], frame: &mut [u8], item: u32, edit: Edit<'_>) -> Box
+    ensures value { result ≡ edit_reply sheet.old frame.old (of_item item edit.entry) }
+    ensures sheet_after { sheet.new ≡ edit_sheet sheet.old frame.old (of_item item edit.entry) }
+    ensures frame_after { frame.new ≡ edit_frame sheet.old frame.old (of_item item edit.entry) }
+{
+    if let Err(refusal) = frame_code(&sheet[..], &frame[..]) {
+        return Box::from(refusal);
+    }
+    match change(sheet, item, edit) {
+        Err(refusal) => Box::from(refusal),
+        Ok(area) => {
+            repaint(Sheet { bytes: &sheet[..] }, frame, area);
+            box_reply(area)
+        }
+    }
 }
 
 // Gives an item a new text, and repaints its damage rectangle, which it gives.
@@ -123,17 +168,7 @@ pub fn station_set_text(sheet: &mut [u8], frame: &mut [u8], item: u32, text: &[u
     ensures sheet_after { sheet.new ≡ edit_sheet sheet.old frame.old (new_text item text.now) }
     ensures frame_after { frame.new ≡ edit_frame sheet.old frame.old (new_text item text.now) }
 {
-    let code = frame_code(&sheet[..], &frame[..]);
-    if code != 0 {
-        return refused_box(code);
-    }
-    let change = change_text(sheet, item, text);
-    let area = change.area;
-    if change.code != 0 {
-        return refused_box(change.code);
-    }
-    repaint(&sheet[..], frame, area);
-    box_reply(area)
+    edited(sheet, frame, item, Edit::Text(text))
 }
 
 // Gives an item a new place, and repaints its damage rectangle, which it gives.
@@ -142,17 +177,7 @@ pub fn station_set_place(sheet: &mut [u8], frame: &mut [u8], item: u32, x: i32, 
     ensures sheet_after { sheet.new ≡ edit_sheet sheet.old frame.old (new_place item x y) }
     ensures frame_after { frame.new ≡ edit_frame sheet.old frame.old (new_place item x y) }
 {
-    let code = frame_code(&sheet[..], &frame[..]);
-    if code != 0 {
-        return refused_box(code);
-    }
-    let change = change_place(sheet, item, x, y);
-    let area = change.area;
-    if change.code != 0 {
-        return refused_box(change.code);
-    }
-    repaint(&sheet[..], frame, area);
-    box_reply(area)
+    edited(sheet, frame, item, Edit::Place(x, y))
 }
 
 // Gives an item a new style, and repaints its damage rectangle, which it gives.
@@ -161,17 +186,7 @@ pub fn station_set_style(sheet: &mut [u8], frame: &mut [u8], item: u32, style: &
     ensures sheet_after { sheet.new ≡ edit_sheet sheet.old frame.old (new_style item style.now) }
     ensures frame_after { frame.new ≡ edit_frame sheet.old frame.old (new_style item style.now) }
 {
-    let code = frame_code(&sheet[..], &frame[..]);
-    if code != 0 {
-        return refused_box(code);
-    }
-    let change = change_style(sheet, item, style);
-    let area = change.area;
-    if change.code != 0 {
-        return refused_box(change.code);
-    }
-    repaint(&sheet[..], frame, area);
-    box_reply(area)
+    edited(sheet, frame, item, Edit::Style(style))
 }
 
 // Makes a list of edits in order, up to the first that is refused; gives how many were made, and the smallest rectangle that holds those that they
@@ -181,12 +196,25 @@ pub fn station_edit_list(sheet: &mut [u8], frame: &mut [u8], list: &[u8]) -> Bat
     ensures sheet_after { sheet.new ≡ edit_list_sheet sheet.old frame.old list.now }
     ensures frame_after { frame.new ≡ edit_list_frame sheet.old frame.old list.now }
 {
-    let code = list_code(&sheet[..], &frame[..], list);
-    if code != 0 {
-        return refused_batch(code);
+    if let Err(refusal) = list_code(&sheet[..], &frame[..], list) {
+        return Batch::from(refusal);
     }
     let made = make_list(sheet, frame, list);
-    batch_reply(made.code, made.made, made.area)
+    batch_reply(made.refused, made.made, made.area)
+}
+
+// Edits an item on the sheet alone; gives the damage rectangle.
+fn edited_on_sheet(sheet: &mut [u8], item: u32, edit: Edit<'_>) -> Box
+    ensures value { result ≡ on_sheet_reply sheet.old (of_item item edit.entry) }
+    ensures sheet_after { sheet.new ≡ on_sheet_sheet sheet.old (of_item item edit.entry) }
+{
+    if let Err(refusal) = sheet::check(&sheet[..]) {
+        return Box::from(refusal);
+    }
+    match change(sheet, item, edit) {
+        Err(refusal) => Box::from(refusal),
+        Ok(area) => box_reply(area),
+    }
 }
 
 // Gives an item a new text on the sheet alone; gives the damage rectangle.
@@ -194,13 +222,7 @@ pub fn station_set_text_on_sheet(sheet: &mut [u8], item: u32, text: &[u8]) -> Bo
     ensures value { result ≡ on_sheet_reply sheet.old (new_text item text.now) }
     ensures sheet_after { sheet.new ≡ on_sheet_sheet sheet.old (new_text item text.now) }
 {
-    let code = sheet::check(&sheet[..]);
-    if code != 0 {
-        return refused_box(code);
-    }
-    let stored = change_text(sheet, item, text);
-    let area = stored.area;
-    edit_reply(stored.code, area)
+    edited_on_sheet(sheet, item, Edit::Text(text))
 }
 
 // Gives an item a new place on the sheet alone; gives the damage rectangle.
@@ -208,13 +230,7 @@ pub fn station_set_place_on_sheet(sheet: &mut [u8], item: u32, x: i32, y: i32) -
     ensures value { result ≡ on_sheet_reply sheet.old (new_place item x y) }
     ensures sheet_after { sheet.new ≡ on_sheet_sheet sheet.old (new_place item x y) }
 {
-    let code = sheet::check(&sheet[..]);
-    if code != 0 {
-        return refused_box(code);
-    }
-    let stored = change_place(sheet, item, x, y);
-    let area = stored.area;
-    edit_reply(stored.code, area)
+    edited_on_sheet(sheet, item, Edit::Place(x, y))
 }
 
 // Gives an item a new style on the sheet alone; gives the damage rectangle.
@@ -222,13 +238,7 @@ pub fn station_set_style_on_sheet(sheet: &mut [u8], item: u32, style: &[u8]) -> 
     ensures value { result ≡ on_sheet_reply sheet.old (new_style item style.now) }
     ensures sheet_after { sheet.new ≡ on_sheet_sheet sheet.old (new_style item style.now) }
 {
-    let code = sheet::check(&sheet[..]);
-    if code != 0 {
-        return refused_box(code);
-    }
-    let stored = change_style(sheet, item, style);
-    let area = stored.area;
-    edit_reply(stored.code, area)
+    edited_on_sheet(sheet, item, Edit::Style(style))
 }
 
 // The frame as a Netpbm file, stored at the head of the output, and its length.
@@ -236,16 +246,18 @@ pub fn station_write_page(sheet: &[u8], frame: &[u8], output: &mut [u8]) -> Numb
     ensures value { result ≡ page_reply sheet.now frame.now output.old }
     ensures output_after { output.new ≡ page_output sheet.now frame.now output.old }
 {
-    let code = page_code(sheet, frame, &output[..]);
-    if code != 0 {
-        return refused_number(code);
-    }
-    let w = frame_width(sheet) as usize;
-    let h = frame_height(sheet) as usize;
-    let length = write_page(output, frame, w, h);
-    Number {
-        code: 0,
-        value: length as u32,
+    match page_code(sheet, frame, &output[..]) {
+        Err(refusal) => Number::from(refusal),
+        Ok(sheet) => {
+            let header = sheet.header();
+            let w = header.frame_width() as usize;
+            let h = header.frame_height() as usize;
+            let length = write_page(output, frame, w, h);
+            Number {
+                code: 0,
+                value: length as u32,
+            }
+        }
     }
 }
 
@@ -255,8 +267,8 @@ pub fn station_read_bdf(file: &[u8], output: &mut [u8]) -> Number
     ensures output_after { output.new ≡ written file.now output.old }
 {
     match bdf::read(file, output) {
-        Outcome::Refused(code) => refused_number(code),
-        Outcome::Written(length) => Number {
+        Err(refusal) => Number::from(refusal),
+        Ok(length) => Number {
             code: 0,
             value: length,
         },
@@ -275,7 +287,7 @@ pub fn station_walk(line: &[u8], offset: usize) -> Step
             next: cursor.at,
         },
         Walked::IllFormed => Step {
-            code: 10,
+            code: u32::from(Refusal::TextIllFormed),
             ended: 0,
             character: 0,
             next: 0,

@@ -1,20 +1,15 @@
 -- Refused with the item's code; else the item is listed, and its box has a corner that fits.
 use Rattle.calls.specs.Calls.{bounding_box_reply}
-use Rattle.calls.proofs.Refusals.{item_listed}
-use Rattle.station.proofs.Calls.{box_refused, box_done}
-use Rattle.station.proofs.Bounds.{item_box_fits}
+use Rattle.station.proofs.Calls.{box_refused, box_replied}
+use Rattle.station.proofs.Bounds.{checked_box_fits}
 use Rattle.station.proofs.station_bounding_box.Goals as goal
 
-pub returns-then-code-ne0 : goal.returns-then-code-ne0
-unfolding bounding_box_reply
-returns-then-code-ne0 c = search box_refused
-
-pub bounding_box-area-requires : goal.bounding_box-area-requires
-bounding_box-area-requires c = search item_listed
-
 pub box_reply-requires : goal.box_reply-requires
-box_reply-requires c = search (item_box_fits, item_listed)
+box_reply-requires c = search (checked_box_fits, c.in-Ok.ensures.same_bytes, c.in-Ok.ensures.item_listed)
 
-pub returns : goal.returns
+pub returns-in-Err : goal.returns-in-Err
 unfolding bounding_box_reply
-returns c = search box_done
+returns-in-Err c = box_refused _ _ c.in-Err.ensures.value _ _ c.from.ensures
+
+pub returns-in-Ok : goal.returns-in-Ok
+returns-in-Ok c = box_replied _ _ _ c.in-Ok.ensures.same_bytes _ _ c.in-Ok.ensures.value c.box_reply.ensures c.bounding_box.ensures

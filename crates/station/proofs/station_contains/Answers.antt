@@ -1,18 +1,11 @@
 -- Refused with the font's code; else the font is listed, and its mapping says yes or no.
 use Rattle.calls.specs.Calls.{contains_reply}
-use Rattle.calls.proofs.Refusals.{font_listed}
-use Rattle.station.proofs.Calls.{number_refused, mapping_within, contains_done}
+use Rattle.station.proofs.Calls.{number_refused, contains_done}
 use Rattle.station.proofs.station_contains.Goals as goal
 
-pub returns-then-code-ne0 : goal.returns-then-code-ne0
+pub returns-in-Err : goal.returns-in-Err
 unfolding contains_reply
-returns-then-code-ne0 c = search number_refused
+returns-in-Err c = number_refused _ _ c.in-Err.ensures.value _ _ c.from.ensures
 
-pub mapping_bytes-mapping-requires : goal.mapping_bytes-mapping-requires
-mapping_bytes-mapping-requires c = search font_listed
-
-pub contains-requires : goal.contains-requires
-contains-requires c = search mapping_within
-
-pub returns : goal.returns
-returns c = search contains_done
+pub returns-in-Ok : goal.returns-in-Ok
+returns-in-Ok c = contains_done _ _ _ c.in-Ok.ensures.same_bytes c.in-Ok.ensures.value c.font-font.result c.font-font.ensures _ _ _ c.contains.ensures c.from-in-Ok.ensures

@@ -1,34 +1,22 @@
 -- Refused with the call's code; else the item is listed, the frame has the sheet's size and the width is within its limit.
 use Rattle.calls.specs.Calls.{whitespace_reply, whitespace_frame}
-use Rattle.calls.proofs.Refusals.{whitespace_framed, whitespace_listed, whitespace_narrow}
-use Rattle.station.proofs.Calls.{kept, done, position_refused, position_done}
-use Rattle.station.proofs.Bounds.{whitespace_next-fits}
+use Rattle.station.proofs.Calls.{kept, position_refused, whitespace_replied, whitespace_drawn}
+use Rattle.station.proofs.Bounds.{checked_whitespace_fits}
 use Rattle.station.proofs.station_draw_whitespace.Goals as goal
 
-pub returns-then-code-ne0-clause-value : goal.returns-then-code-ne0-clause-value
-unfolding whitespace_reply whitespace_frame
-returns-then-code-ne0-clause-value c = search position_refused
-
-pub returns-then-code-ne0-clause-frame_after : goal.returns-then-code-ne0-clause-frame_after
-unfolding whitespace_reply whitespace_frame
-returns-then-code-ne0-clause-frame_after c = search kept
-
-pub draw_whitespace-next-requires-clause-item_listed : goal.draw_whitespace-next-requires-clause-item_listed
-draw_whitespace-next-requires-clause-item_listed c = search whitespace_listed
-
-pub draw_whitespace-next-requires-clause-framed : goal.draw_whitespace-next-requires-clause-framed
-draw_whitespace-next-requires-clause-framed c = search whitespace_framed
-
-pub draw_whitespace-next-requires-clause-width_bound : goal.draw_whitespace-next-requires-clause-width_bound
-draw_whitespace-next-requires-clause-width_bound c = search whitespace_narrow
-
 pub position_reply-requires : goal.position_reply-requires
-position_reply-requires c = search (whitespace_next-fits, whitespace_listed, whitespace_narrow)
+position_reply-requires c = search (checked_whitespace_fits, c.in-Ok.ensures.same_bytes, c.in-Ok.ensures.item_listed, c.in-Ok.ensures.width_bound)
 
-pub returns-clause-value : goal.returns-clause-value
+pub returns-in-Err-clause-value : goal.returns-in-Err-clause-value
 unfolding whitespace_reply whitespace_frame
-returns-clause-value c = search position_done
+returns-in-Err-clause-value c = position_refused _ _ c.in-Err.ensures.value _ _ c.from.ensures
 
-pub returns-clause-frame_after : goal.returns-clause-frame_after
+pub returns-in-Err-clause-frame_after : goal.returns-in-Err-clause-frame_after
 unfolding whitespace_reply whitespace_frame
-returns-clause-frame_after c = search done
+returns-in-Err-clause-frame_after c = kept _ _ c.in-Err.ensures.value _ _
+
+pub returns-in-Ok-clause-value : goal.returns-in-Ok-clause-value
+returns-in-Ok-clause-value c = whitespace_replied _ _ _ c.in-Ok.ensures.same_bytes _ _ c.in-Ok.ensures.value _ _ c.position_reply.ensures c.draw_whitespace.ensures.value
+
+pub returns-in-Ok-clause-frame_after : goal.returns-in-Ok-clause-frame_after
+returns-in-Ok-clause-frame_after c = whitespace_drawn _ _ _ c.in-Ok.ensures.same_bytes _ _ c.in-Ok.ensures.value _ c.draw_whitespace.ensures.frame_after

@@ -1,35 +1,30 @@
 -- Refused before any edit; else the list is made, and replied.
 use Rattle.calls.specs.Calls.{edit_list_sheet, edit_list_frame}
 use Rattle.station.proofs.Calls.{kept, done}
-use Rattle.station.proofs.EditCalls.{list_refused, list_checked, list_filled, list_replied}
+use Rattle.station.proofs.EditCalls.{list_refused, list_checked, list_replied}
 use Rattle.station.proofs.station_edit_list.Goals as goal
 
-pub returns-then-code-ne0-clause-value : goal.returns-then-code-ne0-clause-value
-unfolding edit_list_sheet edit_list_frame
-returns-then-code-ne0-clause-value c = search list_refused
+pub returns-in-Err-clause-value : goal.returns-in-Err-clause-value
+returns-in-Err-clause-value c = list_refused _ _ _ _ c.in-Err.ensures.value _ c.from.ensures
 
-pub returns-then-code-ne0-clause-sheet_after : goal.returns-then-code-ne0-clause-sheet_after
+pub returns-in-Err-clause-sheet_after : goal.returns-in-Err-clause-sheet_after
 unfolding edit_list_sheet edit_list_frame
-returns-then-code-ne0-clause-sheet_after c = search kept
+returns-in-Err-clause-sheet_after c = kept _ _ c.in-Err.ensures.value _ _
 
-pub returns-then-code-ne0-clause-frame_after : goal.returns-then-code-ne0-clause-frame_after
+pub returns-in-Err-clause-frame_after : goal.returns-in-Err-clause-frame_after
 unfolding edit_list_sheet edit_list_frame
-returns-then-code-ne0-clause-frame_after c = search kept
+returns-in-Err-clause-frame_after c = kept _ _ c.in-Err.ensures.value _ _
 
 pub make_list-made-requires-clause-checked : goal.make_list-made-requires-clause-checked
-make_list-made-requires-clause-checked c = search list_checked
-
-pub make_list-made-requires-clause-list_value : goal.make_list-made-requires-clause-list_value
-make_list-made-requires-clause-list_value c = search list_filled
+make_list-made-requires-clause-checked c = list_checked _ _ _ c.in_default.ensures.value
 
 pub returns-clause-value : goal.returns-clause-value
-unfolding edit_list_sheet edit_list_frame
-returns-clause-value c = search list_replied
+returns-clause-value c = list_replied _ _ _ c.in_default.ensures.value _ _ c.batch_reply.ensures c.make_list-made.ensures.result_value
 
 pub returns-clause-sheet_after : goal.returns-clause-sheet_after
 unfolding edit_list_sheet edit_list_frame
-returns-clause-sheet_after c = search done
+returns-clause-sheet_after c = done _ c.in_default.ensures.value _ _ _ c.make_list-made.ensures.sheet_after
 
 pub returns-clause-frame_after : goal.returns-clause-frame_after
 unfolding edit_list_sheet edit_list_frame
-returns-clause-frame_after c = search done
+returns-clause-frame_after c = done _ c.in_default.ensures.value _ _ _ c.make_list-made.ensures.frame_after

@@ -1,21 +1,11 @@
 -- Refused with the font's code; else the font is listed, and its mapping gives the glyph.
 use Rattle.calls.specs.Calls.{index_reply}
-use Rattle.calls.proofs.Refusals.{font_listed}
-use Rattle.station.proofs.Calls.{glyph_refused, mapping_within, index_done}
+use Rattle.station.proofs.Calls.{glyph_refused, index_done}
 use Rattle.station.proofs.station_index.Goals as goal
 
-pub returns-then-code-ne0 : goal.returns-then-code-ne0
+pub returns-in-Err : goal.returns-in-Err
 unfolding index_reply
-returns-then-code-ne0 c = search glyph_refused
+returns-in-Err c = glyph_refused _ _ c.in-Err.ensures.value _ _ c.from.ensures
 
-pub font_at-mono-requires : goal.font_at-mono-requires
-font_at-mono-requires c = search font_listed
-
-pub mapping_bytes-mapping-requires : goal.mapping_bytes-mapping-requires
-mapping_bytes-mapping-requires c = search font_listed
-
-pub glyph_of-glyph-requires : goal.glyph_of-glyph-requires
-glyph_of-glyph-requires c = search mapping_within
-
-pub returns : goal.returns
-returns c = search index_done
+pub returns-in-Ok : goal.returns-in-Ok
+returns-in-Ok c = index_done _ _ _ c.in-Ok.ensures.same_bytes c.in-Ok.ensures.value c.font-font.result c.font-font.ensures _ _ _ c.glyph_of-glyph.ensures c.from-in-Ok.ensures

@@ -2,8 +2,8 @@
 use Rattle.station.proofs.Calls.{read_refused, read_written}
 use Rattle.station.proofs.station_read_bdf.Goals as goal
 
-pub returns-in-Refused-clause-value : goal.returns-in-Refused-clause-value
-returns-in-Refused-clause-value c = search read_refused
+pub returns-in-Err-clause-value : goal.returns-in-Err-clause-value
+returns-in-Err-clause-value c = read_refused _ _ _ _ c.in-Err.ensures.code c.from.ensures
 
-pub returns-in-Written-clause-value : goal.returns-in-Written-clause-value
-returns-in-Written-clause-value c = search read_written
+pub returns-in-Ok-clause-value : goal.returns-in-Ok-clause-value
+returns-in-Ok-clause-value c = read_written _ _ _ c.in-Ok.ensures.code c.in-Ok.ensures.font_length
