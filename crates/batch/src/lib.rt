@@ -16,7 +16,7 @@ use refusals::Refusal;
 use sheet::Sheet;
 
 // The refusal that stopped the list, if one did, how many edits were made, and the smallest rectangle that holds theirs.
-#[derive(Clone, Copy)]
+#[derive(Clone, Copy, Debug, PartialEq, Eq)]
 pub struct Made {
     pub refused: Option<Refusal>,
     pub made: usize,

@@ -23,17 +23,9 @@ use Rattle.sheet.proofs.Acceptance.{accepted}
 use Rattle.drawing.specs.Drawing.{pixel_count}
 use Rattle.drawing.specs.Frames.{Framed}
 use Rattle.page.specs.Page.{page_header}
-use Rattle.calls.specs.Calls.{netpbm, is_there, fits, font_code, item_code, draw_code, draw_item_code, whitespace_code, edit_code, edit_list_code, on_sheet_code, page_code}
+use Rattle.calls.specs.Calls.{netpbm, is_there, fits, draw_code, draw_item_code, edit_code, edit_list_code, on_sheet_code, page_code}
 
 -- ---- each code is the first refusal of two
-
-pub font_code_is : (b : List ℕ) (n : ℕ) → font_code b n ≡ or_else (check b) (is_there n (font_count b) 0)
-unfolding font_code
-font_code_is b n = refl
-
-pub item_code_is : (b : List ℕ) (n : ℕ) → item_code b n ≡ or_else (check b) (is_there n (item_count b) 0)
-unfolding item_code
-item_code_is b n = refl
 
 pub on_sheet_code_is : (b : List ℕ) (e : Edit) → on_sheet_code b e ≡ or_else (check b) (refusal b e)
 unfolding on_sheet_code
@@ -62,10 +54,6 @@ module _ (b frame : List ℕ) where
   after_item rest n =
       let there = ltb n (item_count b) in
       after_frame (need there 12 rest) ∙ need-between (draw_code b frame) there 11 rest ∙ ap (λ (m : ℕ). or_else m rest) (sym (draw_item_code_is n))
-
-  pub whitespace_code_is : (n width : ℕ) → whitespace_code b frame n width ≡ or_else (draw_item_code b frame n) (need (leb width 65_535) 18 0)
-  unfolding whitespace_code
-  whitespace_code_is n width = after_item (need (leb width 65_535) 18 0) n
 
   pub edit_code_is : (e : Edit) → edit_code b frame e ≡ or_else (draw_code b frame) (refusal b e)
   unfolding edit_code
