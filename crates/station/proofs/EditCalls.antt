@@ -2,10 +2,7 @@
 use Prim.Native.Nat.{ℕ}
 use mathlib.Core.Path.{◌≡◌, refl, sym, ap, ◌∙◌}
 use mathlib.Core.List.{List, []}
-use lib.IntN.{ℤ}
 use lib.ListN.{length}
-use mir.Syntax.{w32}
-use mir.Val.{SFits}
 use Rattle.std.specs.Prelude.{Ok, Err}
 use Rattle.refusals.specs.declared.Refusal.{Refusal}
 use Rattle.refusals.specs.Numbers.{number}
@@ -14,10 +11,9 @@ use Rattle.geometry.specs.declared.Rectangle.{Rectangle}
 use Rattle.geometry.specs.Canvas.{Canvas}
 use Rattle.sheet.specs.Accepted.{Accepted}
 use Rattle.sheet.specs.Check.{check}
-use Rattle.sheet.specs.Edits.{Edit, new_text, new_place, item_number, refusal, edited}
+use Rattle.sheet.specs.Edits.{Edit, new_text, item_number, refusal, edited}
 use Rattle.sheet.proofs.Acceptance.{accepted}
 use Rattle.characters.proofs.Refusals.{or_else_zero, or_else_refused}
-use Rattle.edits.proofs.Signed.{read, new_place_read}
 use Rattle.drawing.specs.Drawing.{repainted}
 use Rattle.drawing.specs.Frames.{target_of}
 use Rattle.changes.specs.Change.{Change, change_of, Checked, area_of, outcome, sheet_after}
@@ -30,10 +26,6 @@ use Rattle.batch.specs.declared.Made.{Made}
 use Rattle.batch.specs.Made.{made_batch}
 use Rattle.batch.proofs.Steps.{edit_sheet_lem, edit_frame_lem, edit_reply_lem, near_corner, damage_near, outcome_code, frame_kept, stored_accepted, stored_canvas, frame_made}
 use Rattle.station.proofs.Calls.{kept, done, box_refused}
-
--- a place, as the code reads its two numbers
-pub place_same : (i : ℕ) (x y : ℤ) → SFits w32 x → SFits w32 y → new_place i x y ≡ new_place i (read x) (read y)
-place_same i x y fx fy = sym (new_place_read i x y fx fy)
 
 -- ---- an edit's outcome
 
