@@ -54,6 +54,8 @@ fn cells_of(n: usize, atlas: Atlas) -> Cells
     }
 }
 
+// `SubImage` stays a clause here and below: the pixels that are read are others at each call.
+
 // The pixels from x on of the atlas's row y, as bits 7 to 0 of a number.
 fn bits_at(bytes: &[u8], stride: usize, x: usize, y: usize) -> u32
     requires { SubImage stride x y 1 1 (length bytes.now) }

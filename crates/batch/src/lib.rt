@@ -40,6 +40,7 @@ pub fn make_list(sheet: &mut [u8], frame: &mut [u8], list: &[u8]) -> Made
         height: 0,
     };
     let mut left = list;
+    // What is left of the list goes on, and no iterator of entries: the laws of a list speak of what is left.
     while let Some((entry, behind)) = first_entry(left) {
         match change(sheet, entry.item, entry.edit) {
             Ok(repainted) => {

@@ -63,6 +63,8 @@ fn strip_of(reader: Reader) -> Strip
     }
 }
 
+// `Room` and the facts like it stay clauses: each ties the lent pieces to a file and a pass, and the pieces are lent anew for each line.
+
 // Puts a bitmap line into the atlas, if it is written. The flag stands beside the slice, since a lent slice in an Option would be lent anew for each line.
 fn put_row(pieces: &mut [u8], writing: bool, strip: Strip, i: usize, bits: u64)
     requires { StripFits writing strip i bits (length pieces.old) }
@@ -197,6 +199,7 @@ pub fn pass(file: &[u8], pieces: &mut [u8], size: usize, writing: bool) -> Resul
 {
     let mut reader = Reader::start();
     let mut rest = file;
+    // No iterator of lines: bitmap lines, a usual line and any other each leave the rest of the file where they ended.
     loop {
         let position = rows_at(rest, pieces, size, writing, reader);
         let present = position.reader;

@@ -26,6 +26,8 @@ fn atlas_size(reader: Reader) -> usize
     rows as usize * stride as usize
 }
 
+// `IsMeasured` stays a clause of these three, each called by the next alone: a type would be made once, for one use.
+
 // Writes the atlas and the mapping of a file that was tested and measured.
 fn write_pieces(file: &[u8], pieces: &mut [u8], size: usize, last: Reader)
     requires measured { IsMeasured file.now last }

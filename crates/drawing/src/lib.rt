@@ -103,6 +103,8 @@ pub fn repaint(sheet: Sheet<'_>, frame: &mut [u8], area: Rectangle)
     draw_items(sheet, &mut frame, whole);
 }
 
+// `Framed` stays a clause here and below: it ties a sheet to the frame that is lent with it.
+
 // Draws the page on a frame of the sheet's size.
 #[tactic(auto, using(crate::proofs::Painting::framed_canvas, crate::proofs::Painting::fresh_painted))]
 pub fn draw(sheet: Sheet<'_>, frame: &mut [u8])

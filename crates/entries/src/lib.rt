@@ -66,6 +66,7 @@ pub fn is_filled(list: &[u8]) -> bool
     ensures { result ≡ is_filled list.now }
 {
     let mut left = list;
+    // What is left goes on, and no iterator of entries: it would end at the list's end and at bytes that are no entry alike.
     while !left.is_empty() {
         let Some((_, rest)) = first_entry(left) else {
             return false;

@@ -64,6 +64,8 @@ impl Rectangle {
         self.width == 0 || self.height == 0
     }
 
+    // `EndsFit` stays a clause: the four numbers are public, and a rectangle that fails it is as good elsewhere.
+
     // The smallest rectangle that holds both.
     pub fn envelope(self, other: Rectangle) -> Rectangle
         requires ends_fit { EndsFit self }

@@ -41,6 +41,7 @@ fn rows_if(counts: bool, offset: u32, height: u32) -> Rectangle
     }
 }
 
+// `LengthLimit` and `PlaceLimits` stay clauses: they are of the text and of the place that a call is given, and others at each.
 impl Metrics {
     // How far the top edge of a line is above its y.
     #[tactic(auto, unfolding(crate::specs::Line::baseline_offset))]

@@ -32,7 +32,7 @@ pub struct Glyph {
 }
 
 // Where the search in a mapping starts for the characters of a text: the mapping's first entry, and what is passed over after it
-// for a character whose sequence begins with `lead` or a higher byte.
+// for a character whose sequence begins with `lead` or a higher byte. No Option: with nothing passed over any `lead` serves, and 0 costs no test.
 #[derive(Clone, Copy)]
 pub struct Start {
     pub first: Entry,

@@ -325,6 +325,7 @@ fn replay_case<'a>(
 fn replay_cases(out: &impl Print, list: &[u8], counts: &mut Counts) -> u64 {
     let mut number = 0;
     let mut left = list;
+    // What is left goes on, and no iterator of cases: a case tells where it ends only as it is replayed.
     while !left.is_empty() {
         number += 1;
         let Some(behind) = replay_case(out, left, number, counts) else {

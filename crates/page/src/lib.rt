@@ -47,6 +47,8 @@ fn digit(n: usize) -> u8
     b'0' + n as u8
 }
 
+// Digit by digit, and not by `write!`: a slice takes a format only through a writer of its own, whose end would have to be proved to be the header's.
+
 // Stores a number below 1,000 in decimal from an offset on, and gives the offset after it.
 fn write_digits(output: &mut [u8], at: usize, n: usize) -> usize
     requires { DigitsFit n at output.old }

@@ -1,4 +1,4 @@
-// Styles by the codes that a file stores of them.
+// Styles by the codes that a file stores of them: a match for each, and no TryFrom, since the check lets no other code through.
 ghost use Rattle.std.specs.Prelude.{◌≡◌, length};
 ghost use Rattle.records.specs.Records.{optional_grey, decoration_color, alignment, baseline, line_height, style_of};
 

@@ -6,7 +6,7 @@ ghost use Rattle.replay.specs.Spelled.{spelled};
 
 use station::Box;
 
-// An edit of an item: a new text, a new place or a new style.
+// An edit of an item: a new text, a new place or a new style. Its item's number is part of it, and not beside it as in a list of edits: a case stores one of both.
 #[derive(Clone, Copy)]
 pub enum Edit<'a> {
     Text(u32, &'a [u8]),

@@ -17,7 +17,7 @@ fn write_step(out: &impl Print, at: usize, step: Step) {
     };
 }
 
-// Walks a line to its end, or to what is ill-formed, writes each step, and counts the characters.
+// Walks a line to its end, or to what is ill-formed, writes each step, and counts the characters: a host's loop over the walker.
 fn walk_line(out: &impl Print, line: &[u8]) -> usize
     ensures { result ≡ length (chars line.now) }
 {
