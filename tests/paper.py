@@ -291,7 +291,7 @@ def tool_codes(field):
 
 
 # how crates/records/specs/Records.antt names the codes, in their order
-DEFINED_COLORS = {grey: ["Unset", "Set"], decoration: ["None", "TextColor", "Custom"]}
+DEFINED_COLORS = {grey: ["None", "Some"], decoration: ["NoColor", "TextColor", "Custom"]}
 DEFINED_NAMES = {"optional_grey": DEFINED_COLORS[grey], "decoration_color": DEFINED_COLORS[decoration], "alignment": ["Left", "Center", "Right"],
                  "baseline": ["Top", "Bottom", "Middle", "Alphabetic"], "line_height": ["Pixels", "Percent"]}
 
