@@ -4,7 +4,7 @@ ghost use Rattle.characters.specs.Utf8.{chars};
 ghost use Rattle.line.specs.Line.{character_width, spacing, baseline_offset, is_painted, to_color, advance, measured_width, measured_height, measured_box, rows_if, ink_rows, ink_box};
 ghost use Rattle.line.specs.Limits.{LengthLimit, TopLimit};
 
-use super::{Baseline, DecorationColor, Metrics, MonoTextStyle};
+use super::{Baseline, DecorationColor, Metrics, MonoFont, MonoTextStyle};
 use geometry::{Point, Rectangle};
 
 impl MonoTextStyle {
@@ -41,22 +41,24 @@ fn rows_if(counts: bool, offset: u32, height: u32) -> Rectangle
     }
 }
 
-// `LengthLimit` and `PlaceLimits` stay clauses: they are of the text and of the place that a call is given, and others at each.
-impl Metrics {
+impl MonoFont {
     // How far the top edge of a line is above its y.
     #[tactic(auto, unfolding(crate::specs::Line::baseline_offset))]
-    pub fn baseline_offset(&self, baseline: Baseline) -> u32
-        ensures { result ≡ baseline_offset self.now.font baseline }
+    pub fn baseline_offset(self, baseline: Baseline) -> u32
+        ensures { result ≡ baseline_offset self baseline }
     {
-        let height = self.font.atlas.cell_size.height;
+        let height = self.atlas.cell_size.height;
         match baseline {
             Baseline::Top => 0,
             Baseline::Bottom => height.saturating_sub(1),
             Baseline::Middle => height.saturating_sub(1) / 2,
-            Baseline::Alphabetic => self.font.baseline,
+            Baseline::Alphabetic => self.baseline,
         }
     }
+}
 
+// `LengthLimit` and `PlaceLimits` stay clauses: they are of the text and of the place that a call is given, and others at each.
+impl Metrics {
     // How wide a line's characters stand, each with the spacing after it.
     fn characters_width(&self, text: &[u8]) -> u32
         requires { LengthLimit (length text.now) }

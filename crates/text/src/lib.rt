@@ -54,7 +54,7 @@ impl TextStyle {
     fn top_edge(self, metrics: Metrics, y: u32) -> u32
         ensures { result ≡ top_edge metrics.font self.baseline y }
     {
-        y.saturating_sub(metrics.baseline_offset(self.baseline))
+        y.saturating_sub(metrics.font.baseline_offset(self.baseline))
     }
 
     // Whether a text at y starts below a clip, so that nothing of it is shown.
