@@ -9,7 +9,7 @@ ghost use Rattle.sheet.specs.OfItem.{of_item};
 ghost use Rattle.sheet.specs.Requires.{EditAllowed, TextFits, StyleFits};
 ghost use Rattle.sheet.specs.Edits.{in_range, refusal, biased, put_text, put_place, put_style, edited};
 
-use geometry::ORIGIN;
+use geometry::{ORIGIN, copy_bytes};
 use limits::good_modes;
 use refusals::Refusal;
 use sheet::Sheet;
@@ -69,7 +69,7 @@ fn store_padded(to: &mut [u8], from: &[u8])
     requires { length from.now ≤ length to.old }
     ensures { to.new ≡ from.now ++ replicate (length to.old - length from.now) 0 }
 {
-    to[..from.len()].copy_from_slice(from);
+    copy_bytes(&mut to[..from.len()], from);
     to[from.len()..].fill(0);
 }
 
@@ -106,7 +106,7 @@ fn put_style(sheet: &mut [u8], o: usize, style: &[u8])
     requires { StyleFits sheet.old o style.now }
     ensures { sheet.new ≡ put_style sheet.old o style.now }
 {
-    sheet[o + 13..o + 21].copy_from_slice(style);
+    copy_bytes(&mut sheet[o + 13..o + 21], style);
 }
 
 // Makes an edit of an item.

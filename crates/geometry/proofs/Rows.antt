@@ -6,10 +6,10 @@ use native.Mathlib.Omega.{arith}
 use mathlib.Core.Path.{◌≡◌, refl, ap, ◌∙◌}
 use mathlib.Core.List.{List, [], ◌∷◌, ◌++◌}
 use lib.ListN.{length, get_or, set, take, drop, replicate, length-set, length-drop}
-use lib.Seq.{length-take-le, take-nil, drop-nil}
+use lib.Seq.{length-take-le, take-nil, drop-nil, ext_get_or}
 use borrow.Rule.Slice.PartMut.{put_mid}
 use Rattle.geometry.specs.Layer.{map_indexed}
-use Rattle.geometry.proofs.Layers.{map_indexed-same}
+use Rattle.geometry.proofs.Layers.{map_indexed-same, length-map_indexed, map_indexed_at}
 
 -- `map_indexed` on the first n elements only
 abbrev pub map_first : (ℕ → ℕ → ℕ) → ℕ → ℕ → List ℕ → List ℕ
@@ -90,3 +90,7 @@ row_part f g k n e xs row part p h room ep agree =
     let s : part ≡ map_indexed f (k + n) (take (e - n) (drop n xs)) = ep ∙ ap (λ (l : List ℕ). map_indexed g 0 (take (e - n) l)) d ∙ map_indexed-same g f 0 (k + n) (take (e - n) (drop n xs)) (λ i x u. rw (zero-add i) (agree i x (omega arith))) in
     let q : put_mid n (e - n) row part ≡ map_first f k e xs = rw (s, p.painted) (map_first_put f k n e xs h) in
     record { painted = q; reach = omega arith; size = ap length q ∙ length_map_first f k e xs }
+
+-- bytes copied over as many
+pub copied : (bytes part : List ℕ) → length part ≡ length bytes → map_indexed (λ k x. get_or bytes k 0) 0 part ≡ bytes
+copied bytes part e = ext_get_or 0 _ bytes (length-map_indexed _ 0 part ∙ e) (λ k h. map_indexed_at _ 0 part k (omega (arith, length-map_indexed (λ k x. get_or bytes k 0) 0 part)) ∙ rw (zero-add k))

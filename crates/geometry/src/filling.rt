@@ -14,6 +14,16 @@ fn fill_row(row: &mut [u8], grey: u8)
     }
 }
 
+// Copies bytes over as many. Byte by byte: the slice's own method calls memmove, and the library takes memset alone from its host.
+pub fn copy_bytes(to: &mut [u8], from: &[u8])
+    requires { length to.old ≡ length from.now }
+    ensures { to.new ≡ from.now }
+{
+    for i in 0..to.len() {
+        to[i] = from[i];
+    }
+}
+
 // Fills a rectangle of a frame fw wide: rows as wide as the frame are filled as one.
 pub fn fill_area(greys: &mut [u8], fw: usize, area: FrameArea, grey: u8)
     requires { InFrame fw (length greys.old) area }

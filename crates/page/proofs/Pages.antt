@@ -1,15 +1,13 @@
--- Laws of the page writer: digits, the page's length, bytes copied, and bytes stored one run after another. Assumes nothing.
+-- Laws of the page writer: digits, the page's length, and bytes stored one run after another. Assumes nothing.
 use Prim.Native.Nat.{ℕ, suc, ◌+◌, ◌-◌, ◌/◌, ◌%◌, ◌≤◌, ◌<◌}
 use native.Mathlib.Nat.{add-zero, zero-add, add-suc, suc-add}
 use native.Mathlib.Omega.{arith}
 use native.Mathlib.Decide.{dec_lt}
 use mathlib.Core.Path.{◌≡◌, refl, sym, ap, ◌∙◌}
 use mathlib.Core.List.{List, [], ◌∷◌, ◌++◌, append_assoc}
-use lib.ListN.{length, get_or, set, take, drop, length-append}
-use lib.Seq.{sets, sets-eq, drop-drop, ext_get_or}
+use lib.ListN.{length, set, take, drop, length-append}
+use lib.Seq.{sets, sets-eq, drop-drop}
 use borrow.Author.Tests.{lt-ltb, le-ltb}
-use Rattle.geometry.specs.Layer.{map_indexed}
-use Rattle.geometry.proofs.Layers.{length-map_indexed, map_indexed_at}
 use Rattle.page.specs.Page.{digits, page_header}
 use Rattle.page.specs.Room.{HeaderFits, PageFits}
 
@@ -56,10 +54,7 @@ header_fits w h frame output p = record { width = p.width; height = p.height; ro
 pub greys_fit : (w h at : ℕ) (frame output l : List ℕ) → PageFits w h frame output → length l ≡ length output → at ≡ length (page_header w h) → at + length frame ≤ length l
 greys_fit w h at frame output l p e a = omega (arith, length-append (page_header w h) frame)
 
--- ---- bytes copied
-
-pub copied : (bytes part : List ℕ) → length part ≡ length bytes → map_indexed (λ k x. get_or bytes k 0) 0 part ≡ bytes
-copied bytes part e = ext_get_or 0 _ bytes (length-map_indexed _ 0 part ∙ e) (λ k h. map_indexed_at _ 0 part k (omega (arith, length-map_indexed (λ k x. get_or bytes k 0) 0 part)) ∙ rw (zero-add k))
+-- ---- bytes stored
 
 -- a part put back is a run of stores
 pub part_sets : (l bytes part : List ℕ) (at : ℕ) → at + length bytes ≤ length l → part ≡ bytes → take at l ++ (part ++ drop (at + length bytes - at) (drop at l)) ≡ sets l at bytes

@@ -6,6 +6,8 @@ ghost use Rattle.std.proofs.lemmas.List.Edits.{sets};
 ghost use Rattle.page.specs.Page.{digits, page_header};
 ghost use Rattle.page.specs.Room.{DigitsFit, HeaderFits, PageFits};
 
+use geometry::copy_bytes;
+
 // How many digits a number below 1,000 has.
 fn digit_count(n: usize) -> usize
     ensures { result ≡ length (digits n) }
@@ -35,7 +37,7 @@ fn write_bytes(output: &mut [u8], at: usize, bytes: &[u8]) -> usize
     ensures value { result ≡ at + length bytes.now }
 {
     let end = at + bytes.len();
-    output[at..end].copy_from_slice(bytes);
+    copy_bytes(&mut output[at..end], bytes);
     end
 }
 

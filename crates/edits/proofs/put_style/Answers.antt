@@ -3,4 +3,4 @@ use Rattle.edits.proofs.Stored.{style_stored}
 use Rattle.edits.proofs.put_style.Goals as goal
 
 pub returns : goal.returns
-returns c = style_stored _ _ _ _ c.requires c.copy_from_slice.ensures.after
+returns c = style_stored _ _ _ _ c.requires c.copy_bytes.ensures
