@@ -20,7 +20,8 @@ pub struct Cursor {
     pub at: usize,
 }
 
-// What stands at a position: a character and the position after it, a sequence that RFC 3629 does not allow, or the end.
+// What stands at a position: a character and the position after it, a sequence that RFC 3629 does not allow, or the end. Three cases, of which an
+// option or a result would make two.
 #[derive(Clone, Copy, Debug, PartialEq, Eq)]
 pub enum Step {
     Character(u32, Cursor),

@@ -8,6 +8,7 @@ ghost use Rattle.std.specs.Prelude.{◌<◌, ◌≤◌};
 
 use programs::{checksum, fill_strange};
 use reading::read_full;
+use refusals::Refusal;
 use replay::{Edit, Entries, Reply, byte_at, i32_of, length_at, part, rest, store, u16_of, u32_of};
 use station::{station_draw, station_edit_list};
 
@@ -146,7 +147,7 @@ fn make_singly(sheet: &mut [u8], list: &[u8]) -> Reply {
 
 // What the fresh run makes of a batch with this reply: at 22 none of its entries, and nothing is formed.
 fn make_counted(sheet: &mut [u8], list: &[u8], reply: Reply) -> Reply {
-    if reply.code == 22 {
+    if reply.code == u32::from(Refusal::List) {
         return reply;
     }
     make_singly(sheet, list)
@@ -198,7 +199,11 @@ impl<'a> Run<'a> {
         if self.patched[..] != self.fresh[..] {
             return "different sheets";
         }
-        if reply.code == 22 { "refused" } else { "same" }
+        if reply.code == u32::from(Refusal::List) {
+            "refused"
+        } else {
+            "same"
+        }
     }
 
     // Makes an edit or a batch both ways and writes what came of it, and whether the frame outside its rectangle is as it was, kept in `before`.

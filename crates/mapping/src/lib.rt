@@ -15,7 +15,7 @@ use search::Passed;
 pub mod search;
 
 // What stands at a position of a mapping: a range of characters and the position after it, a sequence that RFC 3629 does not
-// allow, or the end of the list.
+// allow, or the end of the list: three cases, as a step over the bytes has.
 #[derive(Clone, Copy, Debug, PartialEq, Eq)]
 pub enum Entry {
     Range(u32, u32, Cursor),
