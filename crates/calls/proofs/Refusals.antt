@@ -1,21 +1,18 @@
 -- The codes of the calls: each is the first refusal of two, and what a code of 0 tells. Assumes nothing.
 use Prim.Native.Nat.{ℕ, zero, suc, ◌≤◌, ◌<◌}
-use native.Mathlib.Omega.{arith}
 use mathlib.Core.Path.{◌≡◌, refl, sym, ap, ◌∙◌}
 use mathlib.Core.Bool.{Bool, true, false}
 use mathlib.Core.List.{List, ◌++◌}
 use lib.Dec.{ltb, leb, eqb}
 use lib.ListN.{length}
-use borrow.Author.Tests.{le-leb, lt-leb, ltb-true, eqb-true}
+use borrow.Author.Tests.{le-leb, lt-leb, eqb-true}
 use Rattle.std.specs.Prelude.{Result}
 use Rattle.std.specs.Result.{IsErrAnd}
 use Rattle.refusals.specs.declared.Refusal.{Refusal}
 use Rattle.refusals.specs.Numbers.{number, refusal_of}
 use Rattle.characters.specs.Refusal.{need, or_else}
-use Rattle.sheet.specs.Fields.{frame_width, frame_height, font_count, item_count}
+use Rattle.sheet.specs.Fields.{frame_width, frame_height, item_count}
 use Rattle.sheet.specs.Check.{check}
-use Rattle.sheet.specs.Accepted.{Accepted}
-use Rattle.sheet.specs.Requires.{FontListed, ItemListed}
 use Rattle.sheet.specs.Edits.{Edit, refusal}
 use Rattle.entries.specs.Entries.{is_filled}
 use Rattle.characters.proofs.Refusals.{need_zero, or_else_zero, or_else_handed_on, or_else_passed, need_failed, need_passed}
@@ -84,20 +81,6 @@ module _ (b frame : List ℕ) (rest : ℕ) where
 
 pub ruleset call_chain = (framed_passed, listed_passed, need_failed, need_passed)
 
--- ---- what a code of 0 tells
-
-there : (k count : ℕ) → 0 ≡ is_there k count 0 → k < count
-there k count q = ltb-true k count (need_zero (ltb k count) 11 0 (sym q)).0
-
-module _ (b : List ℕ) (k count : ℕ) (g : Accepted b) (z : 0 ≡ is_there k count 0) where
-  pub font_listed : count ≡ font_count b → FontListed b k
-  font_listed e = record { accepted = g; listed = omega (arith, there k count z) }
-
-  pub item_listed : count ≡ item_count b → ItemListed b k
-  item_listed e = record { accepted = g; listed = omega (arith, there k count z) }
-
-pub ruleset listed = (font_listed, item_listed)
-
 -- ---- 17
 
 module _ (b frame : List ℕ) (w h len : ℕ) (el : len ≡ length (page_header w h ++ frame)) (ew : w ≡ frame_width b) (eh : h ≡ frame_height b) where
@@ -117,7 +100,7 @@ module _ (b frame output : List ℕ) (w h len : ℕ) (el : len ≡ length (page_
     pub page_short : length output < len → 17 ≡ page_code c frame output
     page_short k = rw (page_code_is c frame output, ← z, ← same, ← length-netpbm b frame w h len el ew eh, lt-leb len (length output) k)
 
--- ---- an edit
+-- ---- what a code of 0 tells
 
 module _ (b frame : List ℕ) (z : 0 ≡ draw_code b frame) where
   pub draw_framed : Framed b frame

@@ -1,51 +1,39 @@
-// The codes of the calls: the check's refusal, then the call's own tests, rising; a call that passes them has the accepted sheet.
+// The codes of the calls: the check's refusal, then the call's own tests, rising; a call that passes them has the accepted sheet, or its font or item.
 ghost use Rattle.std.specs.Prelude.{◌≡◌, ◌≤◌, true, length, IfOk};
 ghost use Rattle.refusals.specs.Numbers.{refusal_of};
-ghost use Rattle.sheet.specs.Requires.{FontListed, ItemListed};
 ghost use Rattle.entries.specs.Entries.{is_filled};
 ghost use Rattle.drawing.specs.Frames.{Framed};
-ghost use Rattle.calls.specs.Calls.{netpbm, is_there, font_code, item_code, draw_code, draw_item_code, whitespace_code, edit_list_code, page_code};
+ghost use Rattle.calls.specs.Calls.{netpbm, font_code, item_code, draw_code, draw_item_code, whitespace_code, edit_list_code, page_code};
 
 use page::page_length;
+use records::{FontRecord, ItemRecord};
 use refusals::Refusal;
 use sheet::Sheet;
 
-// 12 for a number that is not below the count.
-fn is_there(n: u32, count: u32) -> Result<(), Refusal>
-    ensures { refusal_of result ≡ is_there n count 0 }
-{
-    if n < count {
-        return Ok(());
-    }
-    Err(Refusal::NoSuch)
-}
-
 // The check, then 12 for a font.
-#[tactic(auto, using(characters::proofs::Refusals::chain, crate::proofs::Refusals::listed), unfolding(crate::specs::Calls::font_code))]
-pub fn font_code(sheet: &[u8], n: u32) -> Result<Sheet<'_>, Refusal>
+#[tactic(auto, using(characters::proofs::Refusals::chain), unfolding(crate::specs::Calls::font_code))]
+pub fn font_code(sheet: &[u8], n: u32) -> Result<FontRecord<'_>, Refusal>
     ensures value { refusal_of result ≡ font_code sheet.now n }
-    ensures same_bytes { IfOk result (λ accepted. accepted.bytes.now ≡ sheet.now) }
-    ensures font_listed { IfOk result (λ accepted. FontListed accepted.bytes.now n) }
+    ensures same_bytes { IfOk result (λ font. font.sheet.bytes.now ≡ sheet.now) }
+    ensures same_number { IfOk result (λ font. font.number ≡ n) }
 {
     let accepted = sheet::accepted(sheet)?;
-    is_there(n, accepted.header().font_count())?;
-    Ok(accepted)
+    records::font(accepted, n).ok_or(Refusal::NoSuch)
 }
 
 // The check, then 12 for an item.
-#[tactic(auto, using(characters::proofs::Refusals::chain, crate::proofs::Refusals::listed), unfolding(crate::specs::Calls::item_code))]
-pub fn item_code(sheet: &[u8], n: u32) -> Result<Sheet<'_>, Refusal>
+#[tactic(auto, using(characters::proofs::Refusals::chain), unfolding(crate::specs::Calls::item_code))]
+pub fn item_code(sheet: &[u8], n: u32) -> Result<ItemRecord<'_>, Refusal>
     ensures value { refusal_of result ≡ item_code sheet.now n }
-    ensures same_bytes { IfOk result (λ accepted. accepted.bytes.now ≡ sheet.now) }
-    ensures item_listed { IfOk result (λ accepted. ItemListed accepted.bytes.now n) }
+    ensures same_bytes { IfOk result (λ item. item.sheet.bytes.now ≡ sheet.now) }
+    ensures same_number { IfOk result (λ item. item.number ≡ n) }
 {
     let accepted = sheet::accepted(sheet)?;
-    is_there(n, accepted.header().item_count())?;
-    Ok(accepted)
+    records::item(accepted, n).ok_or(Refusal::NoSuch)
 }
 
 // The check, then 11.
-#[tactic(auto, using(characters::proofs::Refusals::chain, crate::proofs::Refusals::listed), unfolding(crate::specs::Calls::draw_code))]
+#[tactic(auto, using(characters::proofs::Refusals::chain), unfolding(crate::specs::Calls::draw_code))]
 pub fn frame_code<'a>(sheet: &'a [u8], frame: &[u8]) -> Result<Sheet<'a>, Refusal>
     ensures value { refusal_of result ≡ draw_code sheet.now frame.now }
     ensures same_bytes { IfOk result (λ accepted. accepted.bytes.now ≡ sheet.now) }
@@ -62,41 +50,40 @@ pub fn frame_code<'a>(sheet: &'a [u8], frame: &[u8]) -> Result<Sheet<'a>, Refusa
 }
 
 // The check, 11, then 12 for an item.
-#[tactic(auto, using(characters::proofs::Tests::tests, crate::proofs::Refusals::call_chain, crate::proofs::Refusals::listed), unfolding(crate::specs::Calls::draw_item_code))]
-pub fn draw_item_code<'a>(sheet: &'a [u8], frame: &[u8], n: u32) -> Result<Sheet<'a>, Refusal>
+#[tactic(auto, using(crate::proofs::Refusals::call_chain), unfolding(crate::specs::Calls::draw_item_code))]
+pub fn draw_item_code<'a>(sheet: &'a [u8], frame: &[u8], n: u32) -> Result<ItemRecord<'a>, Refusal>
     ensures value { refusal_of result ≡ draw_item_code sheet.now frame.now n }
-    ensures same_bytes { IfOk result (λ accepted. accepted.bytes.now ≡ sheet.now) }
-    ensures framed { IfOk result (λ accepted. Framed accepted.bytes.now frame.now) }
-    ensures item_listed { IfOk result (λ accepted. ItemListed accepted.bytes.now n) }
+    ensures same_bytes { IfOk result (λ item. item.sheet.bytes.now ≡ sheet.now) }
+    ensures framed { IfOk result (λ item. Framed item.sheet.bytes.now frame.now) }
+    ensures same_number { IfOk result (λ item. item.number ≡ n) }
 {
     let accepted = frame_code(sheet, frame)?;
-    is_there(n, accepted.header().item_count())?;
-    Ok(accepted)
+    records::item(accepted, n).ok_or(Refusal::NoSuch)
 }
 
 // The check, 11, 12, then 18.
-#[tactic(auto, using(characters::proofs::Tests::tests, crate::proofs::Refusals::call_chain, crate::proofs::Refusals::listed), unfolding(crate::specs::Calls::whitespace_code))]
+#[tactic(auto, using(characters::proofs::Tests::tests, crate::proofs::Refusals::call_chain), unfolding(crate::specs::Calls::whitespace_code))]
 pub fn whitespace_code<'a>(
     sheet: &'a [u8],
     frame: &[u8],
     n: u32,
     width: u32,
-) -> Result<Sheet<'a>, Refusal>
+) -> Result<ItemRecord<'a>, Refusal>
     ensures value { refusal_of result ≡ whitespace_code sheet.now frame.now n width }
-    ensures same_bytes { IfOk result (λ accepted. accepted.bytes.now ≡ sheet.now) }
-    ensures framed { IfOk result (λ accepted. Framed accepted.bytes.now frame.now) }
-    ensures item_listed { IfOk result (λ accepted. ItemListed accepted.bytes.now n) }
-    ensures width_bound { IfOk result (λ accepted. width ≤ 65_535) }
+    ensures same_bytes { IfOk result (λ item. item.sheet.bytes.now ≡ sheet.now) }
+    ensures framed { IfOk result (λ item. Framed item.sheet.bytes.now frame.now) }
+    ensures same_number { IfOk result (λ item. item.number ≡ n) }
+    ensures width_bound { IfOk result (λ item. width ≤ 65_535) }
 {
-    let accepted = draw_item_code(sheet, frame, n)?;
+    let item = draw_item_code(sheet, frame, n)?;
     if width <= 65535 {
-        return Ok(accepted);
+        return Ok(item);
     }
     Err(Refusal::Whitespace)
 }
 
 // The check, 11, then 17.
-#[tactic(auto, using(characters::proofs::Tests::tests, crate::proofs::Refusals::call_chain, crate::proofs::Refusals::listed), unfolding(crate::specs::Calls::page_code))]
+#[tactic(auto, using(characters::proofs::Tests::tests, crate::proofs::Refusals::call_chain), unfolding(crate::specs::Calls::page_code))]
 pub fn page_code<'a>(sheet: &'a [u8], frame: &[u8], output: &[u8]) -> Result<Sheet<'a>, Refusal>
     ensures value { refusal_of result ≡ page_code sheet.now frame.now output.now }
     ensures same_bytes { IfOk result (λ accepted. accepted.bytes.now ≡ sheet.now) }
@@ -115,7 +102,7 @@ pub fn page_code<'a>(sheet: &'a [u8], frame: &[u8], output: &[u8]) -> Result<She
 }
 
 // The check, 11, then 22.
-#[tactic(auto, using(characters::proofs::Tests::tests, crate::proofs::Refusals::call_chain, crate::proofs::Refusals::listed), unfolding(crate::specs::Calls::edit_list_code))]
+#[tactic(auto, using(characters::proofs::Tests::tests, crate::proofs::Refusals::call_chain), unfolding(crate::specs::Calls::edit_list_code))]
 pub fn list_code<'a>(sheet: &'a [u8], frame: &[u8], list: &[u8]) -> Result<Sheet<'a>, Refusal>
     ensures value { refusal_of result ≡ edit_list_code sheet.now frame.now list.now }
     ensures same_bytes { IfOk result (λ accepted. accepted.bytes.now ≡ sheet.now) }

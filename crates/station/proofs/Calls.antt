@@ -70,7 +70,7 @@ module _ (d : Refusal) (code : ℕ) (e : number d ≡ code) where
   unfolding box_reply
   box_refused r a q = q ∙ rw (← e, positive)
 
--- ---- a call that is not refused: c is the sheet that it has checked
+-- ---- a call that is not refused: c is the sheet that it has checked, k the number of its font or item
 
 module _ (code : ℕ) (z : 0 ≡ code) where
   pub done : {A : Type 0} (r good before : A) → r ≡ good → r ≡ unless_refused code good before
@@ -80,29 +80,29 @@ module _ (code : ℕ) (z : 0 ≡ code) where
   unfolding number_reply
   number_done value v q = rw (← z, q)
 
-module _ (b c : List ℕ) (n : ℕ) (same : c ≡ b) where
-  pub box_replied : (r : Box) (a : Rectangle) → 0 ≡ item_code b n → r ≡ box_reply 0 a → a ≡ bounding_box (item_font c n).mono (item c n) → r ≡ bounding_box_reply b n
+module _ (b c : List ℕ) (n k : ℕ) (same : c ≡ b) (here : k ≡ n) where
+  pub box_replied : (r : Box) (a : Rectangle) → 0 ≡ item_code b n → r ≡ box_reply 0 a → a ≡ bounding_box (item_font c k).mono (item c k) → r ≡ bounding_box_reply b n
   unfolding bounding_box_reply
-  box_replied r a z q e = rw (← z, ← same, ← e) q
+  box_replied r a z q e = rw (← z, ← same, ← here, ← e) q
 
   module _ (frame : List ℕ) where
     module _ (z : 0 ≡ draw_item_code b frame n) where
-      pub item_replied : (r : Drawn) (p : Point) (k : ℕ) → r ≡ drawn_reply 0 p k → p ≡ next (item_font c n).mono (item c n) → k ≡ replaced (item_font c n) (item c n) → r ≡ draw_item_reply b frame n
+      pub item_replied : (r : Drawn) (p : Point) (m : ℕ) → r ≡ drawn_reply 0 p m → p ≡ next (item_font c k).mono (item c k) → m ≡ replaced (item_font c k) (item c k) → r ≡ draw_item_reply b frame n
       unfolding draw_item_reply
-      item_replied r p k q ep ek = rw (← z, ← same, ← ep, ← ek) q
+      item_replied r p m q ep em = rw (← z, ← same, ← here, ← ep, ← em) q
 
-      pub item_drawn : (f : List ℕ) → f ≡ paint (frame_width c) (item_layer c n) frame → f ≡ draw_item_frame b frame n
+      pub item_drawn : (f : List ℕ) → f ≡ paint (frame_width c) (item_layer c k) frame → f ≡ draw_item_frame b frame n
       unfolding draw_item_frame
-      item_drawn f q = rw (← z, ← same) q
+      item_drawn f q = rw (← z, ← same, ← here) q
 
     module _ (width : ℕ) (z : 0 ≡ whitespace_code b frame n width) where
-      pub whitespace_replied : (r : Position) (p : Point) → r ≡ position_reply 0 p → p ≡ whitespace_next (item c n) width → r ≡ whitespace_reply b frame n width
+      pub whitespace_replied : (r : Position) (p : Point) → r ≡ position_reply 0 p → p ≡ whitespace_next (item c k) width → r ≡ whitespace_reply b frame n width
       unfolding whitespace_reply
-      whitespace_replied r p q ep = rw (← z, ← same, ← ep) q
+      whitespace_replied r p q ep = rw (← z, ← same, ← here, ← ep) q
 
-      pub whitespace_drawn : (f : List ℕ) → f ≡ paint (frame_width c) (whitespace_layer (item_font c n).mono (item c n) width) frame → f ≡ whitespace_frame b frame n width
+      pub whitespace_drawn : (f : List ℕ) → f ≡ paint (frame_width c) (whitespace_layer (item_font c k).mono (item c k) width) frame → f ≡ whitespace_frame b frame n width
       unfolding whitespace_frame
-      whitespace_drawn f q = rw (← z, ← same) q
+      whitespace_drawn f q = rw (← z, ← same, ← here) q
 
 pub page_drawn : (b c frame f : List ℕ) → c ≡ b → 0 ≡ draw_code b frame → f ≡ fresh_drawing c frame → f ≡ draw_frame b frame
 unfolding draw_frame
@@ -114,24 +114,24 @@ told : (t : Bool) → bool_byte t ≡ yes_no t
 told true = refl
 told false = refl
 
-module _ (b c : List ℕ) (k : ℕ) (same : c ≡ b) (z : 0 ≡ font_code b k) (f : Lent.Font) (ef : lent f ≡ font c k) where
-  mapping-is : f.mapping.now ≡ (font b k).mapping
-  mapping-is = ap (λ (x : Line.Font). x.mapping) ef ∙ ap (λ (s : List ℕ). (font s k).mapping) same
+module _ (b c : List ℕ) (n k : ℕ) (same : c ≡ b) (here : k ≡ n) (z : 0 ≡ font_code b n) (f : Lent.Font) (ef : lent f ≡ font c k) where
+  mapping-is : f.mapping.now ≡ (font b n).mapping
+  mapping-is = ap (λ (x : Line.Font). x.mapping) ef ∙ ap₂ (λ (s : List ℕ) (i : ℕ). (font s i).mapping) same here
 
-  replacement-is : f.metrics.font.replacement_index ≡ (font b k).mono.replacement_index
-  replacement-is = ap (λ (x : Line.Font). x.mono.replacement_index) ef ∙ ap (λ (s : List ℕ). (font s k).mono.replacement_index) same
+  replacement-is : f.metrics.font.replacement_index ≡ (font b n).mono.replacement_index
+  replacement-is = ap (λ (x : Line.Font). x.mono.replacement_index) ef ∙ ap₂ (λ (s : List ℕ) (i : ℕ). (font s i).mono.replacement_index) same here
 
   pub index_done : (ch v : ℕ) (g : Mapping.Glyph) → g ≡ glyph f.mapping.now f.metrics.font.replacement_index ch → v ≡ bool_byte g.listed
-      → ◌≡◌ {A = Glyph} (record { code = 0; index = g.index; listed = v }) (index_reply b k ch)
+      → ◌≡◌ {A = Glyph} (record { code = 0; index = g.index; listed = v }) (index_reply b n ch)
   unfolding index_reply glyph_reply
   index_done ch v g q d =
-      let same-glyph : g ≡ glyph (font b k).mapping (font b k).mono.replacement_index ch = q ∙ ap₂ (λ (m : List ℕ) (r : ℕ). glyph m r ch) mapping-is replacement-is in
+      let same-glyph : g ≡ glyph (font b n).mapping (font b n).mono.replacement_index ch = q ∙ ap₂ (λ (m : List ℕ) (r : ℕ). glyph m r ch) mapping-is replacement-is in
       let good : ◌≡◌ {A = Glyph} (record { code = 0; index = g.index; listed = v }) (glyph_reply 0 g) = rw (d ∙ told g.listed) in
       good ∙ ap₂ glyph_reply z same-glyph
 
-  pub contains_done : (ch v : ℕ) (t : Bool) → t ≡ contains f.mapping.now ch → v ≡ bool_byte t → ◌≡◌ {A = Number} (record { code = 0; value = v }) (contains_reply b k ch)
+  pub contains_done : (ch v : ℕ) (t : Bool) → t ≡ contains f.mapping.now ch → v ≡ bool_byte t → ◌≡◌ {A = Number} (record { code = 0; value = v }) (contains_reply b n ch)
   unfolding contains_reply
-  contains_done ch v t q d = number_done (font_code b k) z v _ (d ∙ told t ∙ ap yes_no (q ∙ ap (λ (m : List ℕ). contains m ch) mapping-is))
+  contains_done ch v t q d = number_done (font_code b n) z v _ (d ∙ told t ∙ ap yes_no (q ∙ ap (λ (m : List ℕ). contains m ch) mapping-is))
 
 -- ---- station_write_page
 

@@ -21,7 +21,6 @@ use characters::Step as Walked;
 use characters::walker::walk_from;
 use drawing::repaint;
 use page::write_page;
-use records::{FontRecord, ItemRecord};
 use refusals::Refusal;
 use sheet::Sheet;
 use sheet::edit::Edit;
@@ -42,11 +41,7 @@ pub fn station_index(sheet: &[u8], font: u32, character: u32) -> Glyph
 {
     match font_code(sheet, font) {
         Err(refusal) => Glyph::from(refusal),
-        Ok(sheet) => {
-            let record = FontRecord {
-                sheet,
-                number: font,
-            };
+        Ok(record) => {
             let font = record.font();
             let replacement = font.metrics.font.replacement_index;
             let glyph = mapping::glyph_of(font.mapping, replacement, character);
@@ -65,11 +60,7 @@ pub fn station_contains(sheet: &[u8], font: u32, character: u32) -> Number
 {
     match font_code(sheet, font) {
         Err(refusal) => Number::from(refusal),
-        Ok(sheet) => {
-            let record = FontRecord {
-                sheet,
-                number: font,
-            };
+        Ok(record) => {
             let font = record.font();
             Number {
                 code: 0,
@@ -85,13 +76,7 @@ pub fn station_bounding_box(sheet: &[u8], item: u32) -> Box
 {
     match item_code(sheet, item) {
         Err(refusal) => Box::from(refusal),
-        Ok(sheet) => {
-            let record = ItemRecord {
-                sheet,
-                number: item,
-            };
-            box_reply(drawing::bounding_box(record))
-        }
+        Ok(record) => box_reply(drawing::bounding_box(record)),
     }
 }
 
@@ -102,11 +87,7 @@ pub fn station_draw_item(sheet: &[u8], frame: &mut [u8], item: u32) -> Drawn
 {
     match draw_item_code(sheet, &frame[..], item) {
         Err(refusal) => Drawn::from(refusal),
-        Ok(sheet) => {
-            let record = ItemRecord {
-                sheet,
-                number: item,
-            };
+        Ok(record) => {
             let drawn = drawing::draw_item(record, frame);
             drawn_reply(drawn.next, drawn.replaced)
         }
@@ -120,13 +101,7 @@ pub fn station_draw_whitespace(sheet: &[u8], frame: &mut [u8], item: u32, width:
 {
     match whitespace_code(sheet, &frame[..], item, width) {
         Err(refusal) => Position::from(refusal),
-        Ok(sheet) => {
-            let record = ItemRecord {
-                sheet,
-                number: item,
-            };
-            position_reply(drawing::draw_whitespace(record, frame, width))
-        }
+        Ok(record) => position_reply(drawing::draw_whitespace(record, frame, width)),
     }
 }
 

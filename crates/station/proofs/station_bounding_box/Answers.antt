@@ -5,11 +5,11 @@ use Rattle.station.proofs.Bounds.{checked_box_fits}
 use Rattle.station.proofs.station_bounding_box.Goals as goal
 
 pub box_reply-requires : goal.box_reply-requires
-box_reply-requires c = search (checked_box_fits, c.in-Ok.ensures.same_bytes, c.in-Ok.ensures.item_listed)
+box_reply-requires c = search (checked_box_fits, c.in-Ok.ensures.same_bytes, c.in-Ok.record.listed)
 
 pub returns-in-Err : goal.returns-in-Err
 unfolding bounding_box_reply
 returns-in-Err c = box_refused _ _ c.in-Err.ensures.value _ _ c.from.ensures
 
 pub returns-in-Ok : goal.returns-in-Ok
-returns-in-Ok c = box_replied _ _ _ c.in-Ok.ensures.same_bytes _ _ c.in-Ok.ensures.value c.box_reply.ensures c.bounding_box.ensures
+returns-in-Ok c = box_replied _ _ _ _ c.in-Ok.ensures.same_bytes c.in-Ok.ensures.same_number _ _ c.in-Ok.ensures.value c.box_reply.ensures c.bounding_box.ensures

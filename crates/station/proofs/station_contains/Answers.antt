@@ -8,4 +8,4 @@ unfolding contains_reply
 returns-in-Err c = number_refused _ _ c.in-Err.ensures.value _ _ c.from.ensures
 
 pub returns-in-Ok : goal.returns-in-Ok
-returns-in-Ok c = contains_done _ _ _ c.in-Ok.ensures.same_bytes c.in-Ok.ensures.value c.font-font.result c.font-font.ensures _ _ _ c.contains.ensures c.from-in-Ok.ensures
+returns-in-Ok c = contains_done _ _ _ _ c.in-Ok.ensures.same_bytes c.in-Ok.ensures.same_number c.in-Ok.ensures.value c.font-font.result c.font-font.ensures _ _ _ c.contains.ensures c.from-in-Ok.ensures

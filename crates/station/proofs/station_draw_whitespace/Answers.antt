@@ -5,7 +5,7 @@ use Rattle.station.proofs.Bounds.{checked_whitespace_fits}
 use Rattle.station.proofs.station_draw_whitespace.Goals as goal
 
 pub position_reply-requires : goal.position_reply-requires
-position_reply-requires c = search (checked_whitespace_fits, c.in-Ok.ensures.same_bytes, c.in-Ok.ensures.item_listed, c.in-Ok.ensures.width_bound)
+position_reply-requires c = search (checked_whitespace_fits, c.in-Ok.ensures.same_bytes, c.in-Ok.record.listed, c.in-Ok.ensures.width_bound)
 
 pub returns-in-Err-clause-value : goal.returns-in-Err-clause-value
 unfolding whitespace_reply whitespace_frame
@@ -16,7 +16,7 @@ unfolding whitespace_reply whitespace_frame
 returns-in-Err-clause-frame_after c = kept _ _ c.in-Err.ensures.value _ _
 
 pub returns-in-Ok-clause-value : goal.returns-in-Ok-clause-value
-returns-in-Ok-clause-value c = whitespace_replied _ _ _ c.in-Ok.ensures.same_bytes _ _ c.in-Ok.ensures.value _ _ c.position_reply.ensures c.draw_whitespace.ensures.value
+returns-in-Ok-clause-value c = whitespace_replied _ _ _ _ c.in-Ok.ensures.same_bytes c.in-Ok.ensures.same_number _ _ c.in-Ok.ensures.value _ _ c.position_reply.ensures c.draw_whitespace.ensures.value
 
 pub returns-in-Ok-clause-frame_after : goal.returns-in-Ok-clause-frame_after
-returns-in-Ok-clause-frame_after c = whitespace_drawn _ _ _ c.in-Ok.ensures.same_bytes _ _ c.in-Ok.ensures.value _ c.draw_whitespace.ensures.frame_after
+returns-in-Ok-clause-frame_after c = whitespace_drawn _ _ _ _ c.in-Ok.ensures.same_bytes c.in-Ok.ensures.same_number _ _ c.in-Ok.ensures.value _ c.draw_whitespace.ensures.frame_after
