@@ -4,7 +4,7 @@ use native.Mathlib.Nat.{mul-le-mul_right}
 use native.Mathlib.Omega.{arith}
 use mathlib.Core.Path.{◌≡◌, refl, sym, ap, ◌∙◌}
 use mathlib.Core.Bool.{true, false, true≢false}
-use mathlib.Core.List.{List, [], ◌++◌, append-nil}
+use mathlib.Core.List.{List, ◌++◌, append-nil}
 use lib.ListN.{length, take, drop, replicate, length-drop, length-append, length-replicate, drop_of_length-le}
 use lib.Seq.{length-take-le, take_at, drop_at}
 use mir.Syntax.{w32, w64}
@@ -200,9 +200,9 @@ module _ (file : List ℕ) (x : Result Reader Refusal) (m : Measured x start (fi
     pub file_refused : (k : ℕ) → number n ≡ read_code file k
     file_refused k = sym (refused-code k)
 
-    pub file_kept : (output part : List ℕ) → part ≡ [] → part ++ output ≡ written file output
+    pub file_kept : (output : List ℕ) → output ≡ written file output
     unfolding written
-    file_kept output part p = rw p (go (number n) (not_zero n) (refused-code (length output)))
+    file_kept output = go (number n) (not_zero n) (refused-code (length output))
       where
         go : (c : ℕ) → (c ≡ 0 → ⊥) → read_code file (length output) ≡ c
             → output ≡ unless_refused (read_code file (length output)) (font_bytes (font_of file) ++ drop (length (font_bytes (font_of file))) output) output
@@ -215,11 +215,3 @@ nothing_room last = record { small = omega arith; whole = λ t. absurd (true≢f
 
 pub nothing_good : (n : ℕ) → false ≡ true → n ≡ 0
 nothing_good n t = absurd (true≢false (sym t))
-
--- and the output is as it was
-module _ (file output part : List ℕ) (p : part ≡ []) where
-  pub code_kept : (k : ℕ) → k ≡ read_code file (length (part ++ output)) → k ≡ read_code file (length output)
-  code_kept k q = rw p at q
-
-  pub written_kept : (exit : List ℕ) → exit ≡ written file (part ++ output) → exit ≡ written file output
-  written_kept exit q = rw p at q

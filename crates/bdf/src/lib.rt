@@ -7,6 +7,7 @@ ghost use Rattle.bdf.specs.Font.{font_of, atlas_size, atlas_of, mapping_of, font
 ghost use Rattle.bdf.specs.Within.{Within};
 ghost use Rattle.bdf.specs.Walk.{IsMeasured};
 
+use file::Pieces;
 use reader::Reader;
 use refusals::Refusal;
 
@@ -36,7 +37,12 @@ fn write_pieces(file: &[u8], pieces: &mut [u8], size: usize, last: Reader)
     ensures { pieces.new ≡ atlas_of (font_of file.now) ++ mapping_of (font_of file.now) }
 {
     glyphs::clear(&mut pieces[0..size]);
-    let _ = file::pass(file, pieces, size, true);
+    let mut pieces = Pieces {
+        bytes: pieces,
+        size,
+        writing: true,
+    };
+    let _ = file::pass(file, &mut pieces);
 }
 
 // Writes its font.
@@ -73,6 +79,11 @@ pub fn read(file: &[u8], output: &mut [u8]) -> Result<u32, Refusal>
     ensures font_length { IfOk result (λ n. n ≡ length (font_bytes (font_of file.now))) }
     ensures output_after { output.new ≡ written file.now output.old }
 {
-    let last = file::pass(file, &mut output[0..0], 0, false)?;
+    let mut pieces = Pieces {
+        bytes: &mut [],
+        size: 0,
+        writing: false,
+    };
+    let last = file::pass(file, &mut pieces)?;
     write(file, output, last)
 }

