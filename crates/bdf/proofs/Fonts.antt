@@ -13,7 +13,7 @@ use borrow.Author.Tests.{le-leb, lt-leb}
 use borrow.Rule.Slice.PartMut.{put_mid, post_of}
 use Rattle.characters.specs.Refusal.{unless_refused}
 use Rattle.bdf.specs.declared.reader.Reader.{Reader}
-use Rattle.std.specs.Prelude.{Result, Ok, Err}
+use Rattle.std.specs.Prelude.{Result, Err}
 use Rattle.refusals.specs.declared.Refusal.{Refusal}
 use Rattle.refusals.specs.declared.Refusal.TheVariants.{OutputTooShort}
 use Rattle.refusals.specs.Numbers.{number, refusal_of}
@@ -45,6 +45,12 @@ module _ (r : Reader) (w : Within r) where
   rows_few =
       let m : (r.glyphs + 15) / 16 * r.cell.height ≤ 4_097 * r.cell.height = mul-le-mul_right r.cell.height (omega (arith, w.counted, w.short)) in
       omega (arith, w.good_cell.low)
+
+  pub sum_fits : Fits w32 (r.glyphs + 15)
+  sum_fits = omega (arith, w.counted, w.short)
+
+  pub stride_fits : Fits w32 (2 * r.cell.width)
+  stride_fits = omega (arith, w.good_cell.narrow)
 
   pub rows_fit : Fits w32 rows
   rows_fit = omega (arith, rows_few)
@@ -83,14 +89,14 @@ module _ (file : List ℕ) (last : Reader) (m : IsMeasured file last) (size : �
   pieces_good t = m.good
 
   -- the atlas is cleared
-  module _ (pieces part : List ℕ) (l : length pieces ≡ size + last.mapping) (p : part ≡ replicate (length (take (size - 0) pieces)) 0) where
+  module _ (pieces part : List ℕ) (l : length pieces ≡ atlas_size last.cell last.glyphs + last.mapping) (p : part ≡ replicate (length (take (size - 0) pieces)) 0) where
     cleared : part ++ post_of 0 (size - 0) pieces ≡ replicate size 0 ++ drop size pieces
     cleared =
         let z : size - 0 ≡ size = omega arith in
-        rw (p, z, length-take-le size pieces (omega arith))
+        rw (p, z, length-take-le size pieces (omega (arith, e)))
 
     rest-long : length (drop size pieces) ≡ last.mapping
-    rest-long = rw length-drop (omega arith)
+    rest-long = rw length-drop (omega (arith, e))
 
     pub pieces_room : Room true (last_reader start (file_lines file)) size (length (part ++ post_of 0 (size - 0) pieces))
     pieces_room =
@@ -116,7 +122,7 @@ module _ (file : List ℕ) (last : Reader) (m : IsMeasured file last) (size : �
   pub mapping_few : last.mapping ≤ 65_535
   mapping_few = (last_within file last m).short
 
-  module _ (font : List ℕ) (l : length font ≡ 28 + size + last.mapping) where
+  module _ (font : List ℕ) (l : length font ≡ 28 + atlas_size last.cell last.glyphs + last.mapping) where
     pub head_long : length (take 28 font) ≡ 28
     head_long = length-take-le 28 font (omega arith)
 
@@ -125,11 +131,12 @@ module _ (file : List ℕ) (last : Reader) (m : IsMeasured file last) (size : �
       unfolding record_of
       length-head = ap length p
 
-      pub tail_long : length (take (length (head ++ post_of 0 28 font) - 28) (drop 28 (head ++ post_of 0 28 font))) ≡ size + last.mapping
+      pub tail_long : length (take (length (head ++ post_of 0 28 font) - 28) (drop 28 (head ++ post_of 0 28 font))) ≡ atlas_size last.cell last.glyphs + last.mapping
       tail_long =
-          let n : length (head ++ drop 28 font) - 28 ≡ size + last.mapping = rw (length-append, length-drop) (omega (arith, length-head)) in
-          let d : length (drop 28 (head ++ drop 28 font)) ≡ size + last.mapping = rw (drop_at head (drop 28 font) 28 length-head, length-drop) (omega arith) in
-          rw n (length-take-le (size + last.mapping) (drop 28 (head ++ drop 28 font)) (omega arith))
+          let n : length (head ++ drop 28 font) - 28 ≡ size + last.mapping = rw (length-append, length-drop) (omega (arith, length-head, e)) in
+          let d : length (drop 28 (head ++ drop 28 font)) ≡ size + last.mapping = rw (drop_at head (drop 28 font) 28 length-head, length-drop) (omega (arith, e)) in
+          let t : length (take (length (head ++ drop 28 font) - 28) (drop 28 (head ++ drop 28 font))) ≡ size + last.mapping = rw n (length-take-le (size + last.mapping) (drop 28 (head ++ drop 28 font)) (omega arith)) in
+          t ∙ ap (λ (k : ℕ). k + last.mapping) e
 
       pub font_whole : (pieces : List ℕ) → pieces ≡ atlas_of (font_of file) ++ mapping_of (font_of file)
           → put_mid 28 (length (head ++ post_of 0 28 font) - 28) (head ++ post_of 0 28 font) pieces ≡ font_bytes (font_of file)
@@ -182,16 +189,12 @@ module _ (file : List ℕ) (last : Reader) (m : IsMeasured file last) (size : �
     unfolding written
     good_written font q = let z : 28 + size + last.mapping - 0 ≡ 28 + size + last.mapping = omega arith in rw (good-code, length-font, z, q)
 
-    pub output_long : length (take (28 + size + last.mapping - 0) output) ≡ 28 + size + last.mapping
-    output_long = let z : 28 + size + last.mapping - 0 ≡ 28 + size + last.mapping = omega arith in rw z (length-take-le _ output h)
+    pub output_long : length (take (28 + size + last.mapping - 0) output) ≡ 28 + atlas_size last.cell last.glyphs + last.mapping
+    output_long = let z : 28 + size + last.mapping - 0 ≡ 28 + size + last.mapping = omega arith in (rw z (length-take-le _ output h)) ∙ ap (λ (k : ℕ). 28 + k + last.mapping) e
 
--- ---- the file as it was measured
+-- ---- a file that is refused
 
 module _ (file : List ℕ) (x : Result Reader Refusal) (m : Measured x start (file_lines file)) where
-  pub measured_is : (last : Reader) → x ≡ Ok last → IsMeasured file last
-  unfolding file_lines
-  measured_is last e = record { good = sym m.code ∙ ap refusal_of e; last_is = m.last last e }
-
   module _ (n : Refusal) (e : x ≡ Err n) where
     refused-code : (k : ℕ) → read_code file k ≡ number n
     unfolding read_code file_lines

@@ -1,10 +1,9 @@
 // A font file in the Glyph Bitmap Distribution Format 2.1, read line by line, and the font that it gives.
 #![tactic(auto)]
 
-ghost use Rattle.std.specs.Prelude.{◌≡◌, ◌+◌, length, ◌++◌, IfOk};
+ghost use Rattle.std.specs.Prelude.{◌≡◌, length, IfOk};
 ghost use Rattle.refusals.specs.Numbers.{refusal_of};
-ghost use Rattle.bdf.specs.Font.{font_of, atlas_size, atlas_of, mapping_of, font_bytes, read_code, written};
-ghost use Rattle.bdf.specs.Within.{Within};
+ghost use Rattle.bdf.specs.Font.{font_of, font_bytes, read_code, written};
 ghost use Rattle.bdf.specs.Walk.{IsMeasured};
 
 use file::Pieces;
@@ -16,61 +15,68 @@ pub mod glyphs;
 pub mod reader;
 pub mod usual;
 
-// The bytes of the atlas that a file's last reader has measured.
-fn atlas_size(reader: Reader) -> usize
-    requires { Within reader }
-    ensures { result ≡ atlas_size reader.cell reader.glyphs }
-{
-    let cell = reader.cell;
-    let rows = (reader.glyphs + 15) / 16 * cell.height;
-    let stride = 2 * cell.width;
-    rows as usize * stride as usize
+// A font file that was tested, and the reader after its last line, which has measured its atlas and its mapping.
+#[derive(Clone, Copy)]
+struct MeasuredFile<'a> {
+    file: &'a [u8],
+    last: Reader,
+    ghost is_measured: { IsMeasured file.now last },
 }
 
-// `IsMeasured` stays a clause of these three, each called by the next alone: a type would be made once, for one use.
+impl<'a> MeasuredFile<'a> {
+    ghost use Rattle.std.specs.Prelude.{◌≡◌, ◌+◌, length, ◌++◌, IfOk};
+    ghost use Rattle.refusals.specs.Numbers.{refusal_of};
+    ghost use Rattle.bdf.specs.Font.{font_of, atlas_size, atlas_of, mapping_of, font_bytes, read_code, written};
 
-// Writes the atlas and the mapping of a file that was tested and measured.
-fn write_pieces(file: &[u8], pieces: &mut [u8], size: usize, last: Reader)
-    requires measured { IsMeasured file.now last }
-    requires size_value { size ≡ atlas_size last.cell last.glyphs }
-    requires pieces_len { length pieces.old ≡ size + last.mapping }
-    ensures { pieces.new ≡ atlas_of (font_of file.now) ++ mapping_of (font_of file.now) }
-{
-    glyphs::clear(&mut pieces[0..size]);
-    let mut pieces = Pieces {
-        bytes: pieces,
-        size,
-        writing: true,
-    };
-    let _ = file::pass(file, &mut pieces);
-}
-
-// Writes its font.
-fn write_font(file: &[u8], font: &mut [u8], size: usize, last: Reader)
-    requires measured { IsMeasured file.now last }
-    requires size_value { size ≡ atlas_size last.cell last.glyphs }
-    requires font_len { length font.old ≡ 28 + size + last.mapping }
-    ensures { font.new ≡ font_bytes (font_of file.now) }
-{
-    let cell = last.cell;
-    glyphs::put_record(&mut font[0..28], cell, size as u32, last.mapping);
-    write_pieces(file, &mut font[28..], size, last);
-}
-
-// Writes its font, if the output is long enough: the length of the font.
-fn write(file: &[u8], output: &mut [u8], last: Reader) -> Result<u32, Refusal>
-    requires { IsMeasured file.now last }
-    ensures code { refusal_of result ≡ read_code file.now (length output.old) }
-    ensures font_length { IfOk result (λ n. n ≡ length (font_bytes (font_of file.now))) }
-    ensures output_after { output.new ≡ written file.now output.old }
-{
-    let size = atlas_size(last);
-    let end = 28 + size + last.mapping as usize;
-    if output.len() < end {
-        return Err(Refusal::OutputTooShort);
+    // The bytes of its atlas.
+    fn atlas_size(&self) -> usize
+        ensures { result ≡ atlas_size self.now.last.cell self.now.last.glyphs }
+    {
+        let cell = self.last.cell;
+        let rows = (self.last.glyphs + 15) / 16 * cell.height;
+        let stride = 2 * cell.width;
+        rows as usize * stride as usize
     }
-    write_font(file, &mut output[0..end], size, last);
-    Ok(end as u32)
+
+    // Writes its atlas and its mapping.
+    fn write_pieces(&self, pieces: &mut [u8])
+        requires { length pieces.old ≡ atlas_size self.now.last.cell self.now.last.glyphs + self.now.last.mapping }
+        ensures { pieces.new ≡ atlas_of (font_of self.now.file.now) ++ mapping_of (font_of self.now.file.now) }
+    {
+        let size = self.atlas_size();
+        glyphs::clear(&mut pieces[0..size]);
+        let mut pieces = Pieces {
+            bytes: pieces,
+            size,
+            writing: true,
+        };
+        let _ = file::pass(self.file, &mut pieces);
+    }
+
+    // Writes its font.
+    fn write_font(&self, font: &mut [u8])
+        requires { length font.old ≡ 28 + atlas_size self.now.last.cell self.now.last.glyphs + self.now.last.mapping }
+        ensures { font.new ≡ font_bytes (font_of self.now.file.now) }
+    {
+        let size = self.atlas_size();
+        let last = self.last;
+        glyphs::put_record(&mut font[0..28], last.cell, size as u32, last.mapping);
+        self.write_pieces(&mut font[28..]);
+    }
+
+    // Writes its font, if the output is long enough: the length of the font.
+    fn write(&self, output: &mut [u8]) -> Result<u32, Refusal>
+        ensures code { refusal_of result ≡ read_code self.now.file.now (length output.old) }
+        ensures font_length { IfOk result (λ n. n ≡ length (font_bytes (font_of self.now.file.now))) }
+        ensures output_after { output.new ≡ written self.now.file.now output.old }
+    {
+        let end = 28 + self.atlas_size() + self.last.mapping as usize;
+        if output.len() < end {
+            return Err(Refusal::OutputTooShort);
+        }
+        self.write_font(&mut output[0..end]);
+        Ok(end as u32)
+    }
 }
 
 // Reads a font file and writes its font, record, atlas and mapping: the length of the font.
@@ -85,5 +91,5 @@ pub fn read(file: &[u8], output: &mut [u8]) -> Result<u32, Refusal>
         writing: false,
     };
     let last = file::pass(file, &mut pieces)?;
-    write(file, output, last)
+    MeasuredFile { file, last }.write(output)
 }

@@ -1,6 +1,6 @@
--- `write_font` meets its contract: the record stands before them. Assumes nothing.
+-- `MeasuredFile::write_font` meets its contract: the record stands before them. Assumes nothing.
 use Rattle.bdf.proofs.Fonts.{last_cell, size_cast, size_few, mapping_few, head_long, tail_long, font_whole}
-use Rattle.bdf.proofs.write_font.Goals as goal
+use Rattle.bdf.proofs.MeasuredFile.write_font.Goals as goal
 
 pub overflow_cast-size : goal.overflow_cast-size
 overflow_cast-size c = search size_cast
@@ -17,8 +17,8 @@ put_record-requires-clause-atlas_bound c = search size_few
 pub put_record-requires-clause-mapping_bound : goal.put_record-requires-clause-mapping_bound
 put_record-requires-clause-mapping_bound c = search mapping_few
 
-pub write_pieces-requires-clause-pieces_len : goal.write_pieces-requires-clause-pieces_len
-write_pieces-requires-clause-pieces_len c = search tail_long
+pub write_pieces-requires : goal.write_pieces-requires
+write_pieces-requires c = search tail_long
 
 pub returns : goal.returns
 returns c = search font_whole

@@ -1,9 +1,6 @@
--- `write` meets its contract: the length that was measured is that of the font. Assumes nothing.
-use Rattle.bdf.proofs.Fonts.{last_within, head_fits, end_fits, end_cast, short_refused, short_kept, good_accepted, good_length, good_written, output_long}
-use Rattle.bdf.proofs.write.Goals as goal
-
-pub atlas_size-size-requires : goal.atlas_size-size-requires
-atlas_size-size-requires c = search last_within
+-- `MeasuredFile::write` meets its contract: the length that was measured is that of the font. Assumes nothing.
+use Rattle.bdf.proofs.Fonts.{head_fits, end_fits, end_cast, short_refused, short_kept, good_accepted, good_length, good_written, output_long}
+use Rattle.bdf.proofs.MeasuredFile.write.Goals as goal
 
 pub overflow_add-end : goal.overflow_add-end
 overflow_add-end c = search head_fits
@@ -17,8 +14,8 @@ returns-then-output-end-clause-code c = search short_refused
 pub returns-then-output-end-clause-output_after : goal.returns-then-output-end-clause-output_after
 returns-then-output-end-clause-output_after c = search short_kept
 
-pub write_font-requires-clause-font_len : goal.write_font-requires-clause-font_len
-write_font-requires-clause-font_len c = search output_long
+pub write_font-requires : goal.write_font-requires
+write_font-requires c = search output_long
 
 pub overflow_cast-result : goal.overflow_cast-result
 overflow_cast-result c = search end_cast

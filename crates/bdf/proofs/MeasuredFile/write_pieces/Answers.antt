@@ -1,7 +1,7 @@
--- `write_pieces` meets its contract: the lines put the font's atlas and mapping over a cleared atlas. Assumes nothing.
+-- `MeasuredFile::write_pieces` meets its contract: the lines put the font's atlas and mapping over a cleared atlas. Assumes nothing.
 use native.Mathlib.Omega.{arith}
 use Rattle.bdf.proofs.Fonts.{pieces_room, pieces_good, pieces-written}
-use Rattle.bdf.proofs.write_pieces.Goals as goal
+use Rattle.bdf.proofs.MeasuredFile.write_pieces.Goals as goal
 
 pub pass-requires-clause-room : goal.pass-requires-clause-room
 pass-requires-clause-room c = search pieces_room
@@ -11,6 +11,6 @@ pass-requires-clause-file_value c = search pieces_good
 
 pub returns : goal.returns
 returns c =
-    let p = pieces-written _ _ c.requires.measured _ c.requires.size_value _ _ c.requires.pieces_len c.clear.ensures _ c.pass.ensures.pieces_after in
+    let p = pieces-written _ _ c.args.self.now.is_measured _ c.atlas_size-size.ensures _ _ c.requires c.clear.ensures _ c.pass.ensures.pieces_after in
     let q = c.pass.ensures.same_place.same_bytes in
     grind arith
