@@ -3,10 +3,9 @@ ghost use Rattle.std.specs.Prelude.{◌≡◌, ◌+◌, ◌≤◌, length, [], t
 ghost use Rattle.characters.specs.Lines.{line_length};
 ghost use Rattle.bdf.specs.Reader.{start, in_bitmap, step, first_refusal, last_reader, file_lines};
 ghost use Rattle.bdf_lines.specs.Forms.{line_at};
-ghost use Rattle.bdf.specs.Within.{Within};
 ghost use Rattle.bdf.specs.Walk.{Measured, put_lines_if, Room, Carries, LineOver, SamePlace, strip_of};
 
-use super::reader::{Answer, Expected, Reader};
+use super::reader::{Answer, Expected, Reader, SoundReader};
 use super::{glyphs, usual};
 use bdf_lines::forms;
 use characters::lines::{line_end, without_return};
@@ -24,14 +23,13 @@ pub struct Strip {
 // A reader between two lines, and the rest of the file from the next line on.
 #[derive(Clone, Copy)]
 pub struct Position<'a> {
-    pub reader: Reader,
+    pub reader: SoundReader,
     pub rest: &'a [u8],
 }
 
 // What the first line of the rest of a file does, and where it ends: at its feed, or at the file's end.
-fn first_line(text: &[u8], reader: Reader) -> (Result<Answer, Refusal>, usize)
-    requires { Within reader }
-    ensures { (result.0 ≡ step reader (line_at text.now 0)) × (result.1 ≡ line_length text.now) }
+fn first_line(text: &[u8], reader: SoundReader) -> (Result<Answer, Refusal>, usize)
+    ensures { (result.0 ≡ step reader.state (line_at text.now 0)) × (result.1 ≡ line_length text.now) }
 {
     let Some((answer, to)) = usual::answer_at(text, reader) else {
         let end = line_end(text, 0);
@@ -41,14 +39,14 @@ fn first_line(text: &[u8], reader: Reader) -> (Result<Answer, Refusal>, usize)
 }
 
 // Where the lines of the present glyph's bitmap stand in the atlas.
-fn strip_of(reader: Reader) -> Strip
-    requires within { Within reader }
-    requires le_glyphs { 1 ≤ reader.glyphs }
-    ensures { result ≡ strip_of reader }
+fn strip_of(reader: SoundReader) -> Strip
+    requires { 1 ≤ reader.state.glyphs }
+    ensures { result ≡ strip_of reader.state }
 {
-    let cell = reader.cell;
-    let bbx = reader.bbx;
-    let k = reader.glyphs - 1;
+    let state = reader.state;
+    let cell = state.cell;
+    let bbx = state.bbx;
+    let k = state.glyphs - 1;
     let head = cell.y + cell.height;
     let ink_top = head - (bbx.y + bbx.height);
     let top = k / 16 * cell.height + ink_top;
@@ -74,7 +72,6 @@ pub struct Pieces<'a> {
 
 impl<'a> Pieces<'a> {
     ghost use Rattle.std.specs.Prelude.{◌≡◌, ◌≤◌, length, Ok};
-    ghost use Rattle.bdf.specs.Within.{Within};
     ghost use Rattle.bdf.specs.Walk.{SamePlace, put_if, StripFits, put_strip_if, SpellingFits, put_spelling_if, AnswerFits};
 
     // Puts a bitmap line into the atlas, if it is written.
@@ -105,24 +102,23 @@ impl<'a> Pieces<'a> {
     }
 
     // Puts what a line says, if it is written.
-    fn put(&mut self, reader: Reader, answer: Answer)
-        requires within { Within reader }
+    fn put(&mut self, reader: SoundReader, answer: Answer)
         requires size_bound { self.old.size ≤ 100_000_000 }
-        requires answer_fits { AnswerFits self.old.writing self.old.size reader (Ok answer) (length self.old.bytes.now) }
-        ensures bytes_after { self.new.bytes.now ≡ put_if self.old.writing self.old.size reader (Ok answer) self.old.bytes.now }
+        requires answer_fits { AnswerFits self.old.writing self.old.size reader.state (Ok answer) (length self.old.bytes.now) }
+        ensures bytes_after { self.new.bytes.now ≡ put_if self.old.writing self.old.size reader.state (Ok answer) self.old.bytes.now }
         ensures same_place { SamePlace self.old self.new }
     {
         match answer {
             Answer::Passed(_) => {}
             Answer::Boxed(_) => {}
             Answer::Encoded(next, v) => {
-                let from = self.size + reader.mapping as usize;
+                let from = self.size + reader.state.mapping as usize;
                 let to = self.size + next.mapping as usize;
                 self.put_spelling(from, to, v);
             }
             Answer::Drawn(_, bits) => {
                 let strip = strip_of(reader);
-                self.put_row(strip, reader.read as usize, bits);
+                self.put_row(strip, reader.state.read as usize, bits);
             }
         }
     }
@@ -131,18 +127,18 @@ impl<'a> Pieces<'a> {
 // `Room` and the facts like it stay clauses: each ties the pieces to a file and the rest of it, which changes with each line.
 
 // Passes over bitmap lines that end in a feed, and puts them into the atlas, if it is written.
-fn put_rows<'a>(text: &'a [u8], pieces: &mut Pieces, reader: Reader) -> Position<'a>
-    requires within { Within reader }
-    requires reader_value { in_bitmap reader ≡ true }
-    requires room { Room pieces.old.writing (last_reader reader (file_lines text.now)) pieces.old.size (length pieces.old.bytes.now) }
-    ensures carries { Carries text.now pieces.old.writing pieces.old.size reader pieces.old.bytes.now result.reader result.rest.now pieces.new.bytes.now }
+fn put_rows<'a>(text: &'a [u8], pieces: &mut Pieces, reader: SoundReader) -> Position<'a>
+    requires reader_value { in_bitmap reader.state ≡ true }
+    requires room { Room pieces.old.writing (last_reader reader.state (file_lines text.now)) pieces.old.size (length pieces.old.bytes.now) }
+    ensures carries { Carries text.now pieces.old.writing pieces.old.size reader.state pieces.old.bytes.now result.reader.state result.rest.now pieces.new.bytes.now }
     ensures same_place { SamePlace pieces.old pieces.new }
 {
-    let width = reader.bbx.width;
     let strip = strip_of(reader);
-    let mut present = reader;
+    let state = reader.state;
+    let width = state.bbx.width;
+    let mut present = state;
     let mut rest = text;
-    for read in reader.read..reader.bbx.height {
+    for read in state.read..state.bbx.height {
         let Some((bits, end)) = forms::row_at(rest, width) else {
             break;
         };
@@ -151,29 +147,31 @@ fn put_rows<'a>(text: &'a [u8], pieces: &mut Pieces, reader: Reader) -> Position
         rest = &rest[end + 1..];
     }
     Position {
-        reader: present,
+        reader: SoundReader { state: present },
         rest,
     }
 }
 
 // Passes over bitmap lines, where they are next.
-fn rows_at<'a>(text: &'a [u8], pieces: &mut Pieces, reader: Reader) -> Position<'a>
-    requires within { Within reader }
-    requires room { Room pieces.old.writing (last_reader reader (file_lines text.now)) pieces.old.size (length pieces.old.bytes.now) }
-    ensures carries { Carries text.now pieces.old.writing pieces.old.size reader pieces.old.bytes.now result.reader result.rest.now pieces.new.bytes.now }
+fn rows_at<'a>(text: &'a [u8], pieces: &mut Pieces, reader: SoundReader) -> Position<'a>
+    requires room { Room pieces.old.writing (last_reader reader.state (file_lines text.now)) pieces.old.size (length pieces.old.bytes.now) }
+    ensures carries { Carries text.now pieces.old.writing pieces.old.size reader.state pieces.old.bytes.now result.reader.state result.rest.now pieces.new.bytes.now }
     ensures same_place { SamePlace pieces.old pieces.new }
 {
-    if reader.in_bitmap() {
+    if reader.state.in_bitmap() {
         return put_rows(text, pieces, reader);
     }
     Position { reader, rest: text }
 }
 
 // Reads the first line of the rest of a file, and puts what it says, if it is written: the reader after it, and where it ends.
-fn put_line(text: &[u8], pieces: &mut Pieces, reader: Reader) -> Result<(Reader, usize), Refusal>
-    requires within { Within reader }
-    requires room { Room pieces.old.writing (last_reader reader (file_lines text.now)) pieces.old.size (length pieces.old.bytes.now) }
-    ensures line_over { LineOver text.now pieces.old.writing pieces.old.size reader pieces.old.bytes.now result pieces.new.bytes.now }
+fn put_line(
+    text: &[u8],
+    pieces: &mut Pieces,
+    reader: SoundReader,
+) -> Result<(Reader, usize), Refusal>
+    requires room { Room pieces.old.writing (last_reader reader.state (file_lines text.now)) pieces.old.size (length pieces.old.bytes.now) }
+    ensures line_over { LineOver text.now pieces.old.writing pieces.old.size reader.state pieces.old.bytes.now result pieces.new.bytes.now }
     ensures same_place { SamePlace pieces.old pieces.new }
 {
     let (line, end) = first_line(text, reader);
@@ -205,10 +203,10 @@ pub fn pass(file: &[u8], pieces: &mut Pieces) -> Result<Reader, Refusal>
     let mut rest = file;
     // No iterator of lines: bitmap lines, a usual line and any other each leave the rest of the file where they ended.
     loop {
-        let position = rows_at(rest, pieces, reader);
+        let position = rows_at(rest, pieces, SoundReader { state: reader });
         let present = position.reader;
         let text = position.rest;
-        if let Some((next, to)) = usual::move_at(text, present) {
+        if let Some((next, to)) = usual::move_at(text, present.state) {
             reader = next;
             rest = &text[to..];
             continue;

@@ -47,7 +47,7 @@ pub enum Expected {
     Nothing,
 }
 
-// What is known before a line. `Within` is asked for and is no invariant of the type, since `expecting` makes states in which it does not hold.
+// What is known before a line. `Within` is no invariant of it, since `expecting` makes states in which it does not hold.
 #[derive(Clone, Copy)]
 pub struct Reader {
     pub expected: Expected,
@@ -63,6 +63,13 @@ pub struct Reader {
     pub least: u32,
     // bitmap lines of the present glyph that were read
     pub read: u32,
+}
+
+// A reader between two lines: the facts of `Within` hold of its state.
+#[derive(Clone, Copy)]
+pub struct SoundReader {
+    pub state: Reader,
+    ghost within: { Within state },
 }
 
 // What a line does that is not refused: it leads to another state, and may say a glyph's encoding, its BBX, or a line of its bitmap.
@@ -288,63 +295,6 @@ impl Reader {
         Ok(Answer::Passed(self.leaving(Expected::Property, n)))
     }
 
-    // A glyph's character, put into the mapping.
-    fn spelling_line(self, v: u32) -> Result<Answer, Refusal>
-        requires within { Within self }
-        requires v_bound { v ≤ 0x10FFFF }
-        ensures { result ≡ spelling_line v self }
-    {
-        let mapping = self.mapping + glyphs::spelled_length(v);
-        if 65535 < mapping {
-            return Err(Refusal::BdfLimit);
-        }
-        let read = 0;
-        let next = Reader {
-            expected: Expected::Swidth,
-            glyphs: self.glyphs + 1,
-            mapping,
-            least: v + 1,
-            read,
-            ..self
-        };
-        Ok(Answer::Encoded(next, v))
-    }
-
-    // ENCODING.
-    pub fn encoding_line(self, encoding: Option<Number>) -> Result<Answer, Refusal>
-        requires { Within self }
-        ensures { result ≡ encoding_line encoding self }
-    {
-        let Some(n) = encoding else {
-            return Err(Refusal::BdfLine);
-        };
-        if !is_character(n) {
-            return Err(Refusal::BdfEncoding);
-        }
-        if n.size < self.least as u64 {
-            return Err(Refusal::BdfEncoding);
-        }
-        self.spelling_line(n.size as u32)
-    }
-
-    // BBX.
-    pub fn bbx_line(self, four: Option<Four>) -> Result<Answer, Refusal>
-        requires { Within self }
-        ensures { result ≡ bbx_line four self }
-    {
-        let Some(numbers) = four else {
-            return Err(Refusal::BdfLine);
-        };
-        if !is_in_cell(self.cell, numbers) {
-            return Err(Refusal::BdfLimit);
-        }
-        Ok(Answer::Boxed(Reader {
-            expected: Expected::Attributes,
-            bbx: box_of(numbers),
-            ..self
-        }))
-    }
-
     // A bitmap line.
     fn row_line(self, row: Option<u64>) -> Result<Answer, Refusal>
         requires { self.read < 64 }
@@ -393,47 +343,103 @@ impl Reader {
         }
         self.moved(words::is_alone(line, b"BITMAP"), Expected::Rows)
     }
+}
+
+impl SoundReader {
+    // A glyph's character, put into the mapping.
+    fn spelling_line(self, v: u32) -> Result<Answer, Refusal>
+        requires { v ≤ 0x10FFFF }
+        ensures { result ≡ spelling_line v self.state }
+    {
+        let mapping = self.state.mapping + glyphs::spelled_length(v);
+        if 65535 < mapping {
+            return Err(Refusal::BdfLimit);
+        }
+        let read = 0;
+        let next = Reader {
+            expected: Expected::Swidth,
+            glyphs: self.state.glyphs + 1,
+            mapping,
+            least: v + 1,
+            read,
+            ..self.state
+        };
+        Ok(Answer::Encoded(next, v))
+    }
+
+    // ENCODING.
+    pub fn encoding_line(self, encoding: Option<Number>) -> Result<Answer, Refusal>
+        ensures { result ≡ encoding_line encoding self.state }
+    {
+        let Some(n) = encoding else {
+            return Err(Refusal::BdfLine);
+        };
+        if !is_character(n) {
+            return Err(Refusal::BdfEncoding);
+        }
+        if n.size < self.state.least as u64 {
+            return Err(Refusal::BdfEncoding);
+        }
+        self.spelling_line(n.size as u32)
+    }
+
+    // BBX.
+    pub fn bbx_line(self, four: Option<Four>) -> Result<Answer, Refusal>
+        ensures { result ≡ bbx_line four self.state }
+    {
+        let Some(numbers) = four else {
+            return Err(Refusal::BdfLine);
+        };
+        if !is_in_cell(self.state.cell, numbers) {
+            return Err(Refusal::BdfLimit);
+        }
+        Ok(Answer::Boxed(Reader {
+            expected: Expected::Attributes,
+            bbx: box_of(numbers),
+            ..self.state
+        }))
+    }
 
     // A bitmap line, or ENDCHAR.
     fn bitmap_line(self, line: &[u8]) -> Result<Answer, Refusal>
-        requires { Within self }
-        ensures { result ≡ line_step Rows self line.now (words line.now) }
+        ensures { result ≡ line_step Rows self.state line.now (words line.now) }
     {
-        let width = self.bbx.width;
-        if self.read < self.bbx.height {
-            return self.row_line(values::row_of(line, width));
+        let state = self.state;
+        let width = state.bbx.width;
+        if state.read < state.bbx.height {
+            return state.row_line(values::row_of(line, width));
         }
-        self.moved(words::is_alone(line, b"ENDCHAR"), Expected::Glyph)
+        state.moved(words::is_alone(line, b"ENDCHAR"), Expected::Glyph)
     }
 
     // What the line that is expected does.
     fn line_step(self, line: &[u8]) -> Result<Answer, Refusal>
-        requires { Within self }
-        ensures { result ≡ line_step self.expected self line.now (words line.now) }
+        ensures { result ≡ line_step self.state.expected self.state line.now (words line.now) }
     {
-        let expected = self.expected;
+        let state = self.state;
+        let expected = state.expected;
         match expected {
             Expected::StartFont => {
-                self.moved(words::is_pair(line, b"STARTFONT", b"2.1"), Expected::Font)
+                state.moved(words::is_pair(line, b"STARTFONT", b"2.1"), Expected::Font)
             }
-            Expected::Font => self.moved(words::is_named(line, b"FONT"), Expected::Size),
-            Expected::Size => self.moved(
+            Expected::Font => state.moved(words::is_named(line, b"FONT"), Expected::Size),
+            Expected::Size => state.moved(
                 values::has_numbers(line, b"SIZE", 3),
                 Expected::FontBoundingBox,
             ),
-            Expected::FontBoundingBox => self.cell_line(values::four_of(line, b"FONTBOUNDINGBOX")),
-            Expected::Properties => self.properties_line(line),
-            Expected::Property => self.property_line(line),
-            Expected::Chars => self.counted(values::count_of(line, b"CHARS"), Expected::Glyph),
-            Expected::Glyph => self.glyph_line(line),
+            Expected::FontBoundingBox => state.cell_line(values::four_of(line, b"FONTBOUNDINGBOX")),
+            Expected::Properties => state.properties_line(line),
+            Expected::Property => state.property_line(line),
+            Expected::Chars => state.counted(values::count_of(line, b"CHARS"), Expected::Glyph),
+            Expected::Glyph => state.glyph_line(line),
             Expected::Encoding => self.encoding_line(values::encoding_of(line)),
             Expected::Swidth => {
-                self.moved(values::has_numbers(line, b"SWIDTH", 2), Expected::Dwidth)
+                state.moved(values::has_numbers(line, b"SWIDTH", 2), Expected::Dwidth)
             }
-            Expected::Dwidth => self.moved(values::has_numbers(line, b"DWIDTH", 2), Expected::Bbx),
+            Expected::Dwidth => state.moved(values::has_numbers(line, b"DWIDTH", 2), Expected::Bbx),
             Expected::Bbx => self.bbx_line(values::four_of(line, b"BBX")),
-            Expected::Attributes => self.attributes_line(line),
-            Expected::Bitmap => self.moved(words::is_alone(line, b"BITMAP"), Expected::Rows),
+            Expected::Attributes => state.attributes_line(line),
+            Expected::Bitmap => state.moved(words::is_alone(line, b"BITMAP"), Expected::Rows),
             Expected::Rows => self.bitmap_line(line),
             Expected::Nothing => Err(Refusal::BdfLine),
         }
@@ -441,14 +447,13 @@ impl Reader {
 
     // What a line does.
     pub fn step(self, line: &[u8]) -> Result<Answer, Refusal>
-        requires { Within self }
-        ensures { result ≡ step self line.now }
+        ensures { result ≡ step self.state line.now }
     {
-        if self.in_bitmap() {
+        if self.state.in_bitmap() {
             return self.line_step(line);
         }
         if words::is_comment(line) {
-            return Ok(Answer::Passed(self));
+            return Ok(Answer::Passed(self.state));
         }
         self.line_step(line)
     }

@@ -1,10 +1,9 @@
 // What a glyph's lines in their usual form do, read at the head of the rest of a file. Any other form goes the general way.
 ghost use Rattle.std.specs.Prelude.{◌≡◌};
 ghost use Rattle.bdf.specs.declared.reader.Expected.TheVariants.{Glyph, Encoding, Bbx, Rows};
-ghost use Rattle.bdf.specs.Within.{Within};
 ghost use Rattle.bdf.specs.Usual.{UsualMove, UsualAnswer};
 
-use super::reader::{Answer, Expected, Reader};
+use super::reader::{Answer, Expected, Reader, SoundReader};
 use bdf_lines::forms;
 use refusals::Refusal;
 
@@ -64,31 +63,28 @@ pub fn move_at(text: &[u8], reader: Reader) -> Option<(Reader, usize)>
 }
 
 // What ENCODING does, and the position after its feed.
-fn encoding_answer(text: &[u8], reader: Reader) -> Option<(Result<Answer, Refusal>, usize)>
-    requires within { Within reader }
-    requires expected_value { reader.expected ≡ Encoding }
-    ensures { UsualAnswer text.now reader result }
+fn encoding_answer(text: &[u8], reader: SoundReader) -> Option<(Result<Answer, Refusal>, usize)>
+    requires { reader.state.expected ≡ Encoding }
+    ensures { UsualAnswer text.now reader.state result }
 {
     let (n, to) = forms::encoding_at(text)?;
     Some((reader.encoding_line(Some(n)), to))
 }
 
 // What BBX does, and the position after its feed.
-fn bbx_answer(text: &[u8], reader: Reader) -> Option<(Result<Answer, Refusal>, usize)>
-    requires within { Within reader }
-    requires expected_value { reader.expected ≡ Bbx }
-    ensures { UsualAnswer text.now reader result }
+fn bbx_answer(text: &[u8], reader: SoundReader) -> Option<(Result<Answer, Refusal>, usize)>
+    requires { reader.state.expected ≡ Bbx }
+    ensures { UsualAnswer text.now reader.state result }
 {
     let (four, to) = forms::bbx_at(text)?;
     Some((reader.bbx_line(Some(four)), to))
 }
 
 // What ENCODING or BBX does, and the position after its feed.
-pub fn answer_at(text: &[u8], reader: Reader) -> Option<(Result<Answer, Refusal>, usize)>
-    requires { Within reader }
-    ensures { UsualAnswer text.now reader result }
+pub fn answer_at(text: &[u8], reader: SoundReader) -> Option<(Result<Answer, Refusal>, usize)>
+    ensures { UsualAnswer text.now reader.state result }
 {
-    let expected = reader.expected;
+    let expected = reader.state.expected;
     match expected {
         Expected::Encoding => encoding_answer(text, reader),
         Expected::Bbx => bbx_answer(text, reader),

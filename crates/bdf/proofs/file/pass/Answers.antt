@@ -7,8 +7,8 @@ use Rattle.bdf.proofs.file.pass.Goals as goal
 pub loop-next-init : goal.loop-next-init
 loop-next-init c = search pass_start
 
-pub rows_at-position-requires-clause-room : goal.rows_at-position-requires-clause-room
-rows_at-position-requires-clause-room c = search pass_here
+pub rows_at-position-requires : goal.rows_at-position-requires
+rows_at-position-requires c = search pass_here
 
 pub loop-next-smaller-in-Some : goal.loop-next-smaller-in-Some
 loop-next-smaller-in-Some c = search (move_less, c.in-Some.is)
@@ -16,8 +16,8 @@ loop-next-smaller-in-Some c = search (move_less, c.in-Some.is)
 pub loop-next-preserved-in-Some : goal.loop-next-preserved-in-Some
 loop-next-preserved-in-Some c = search (move_on, c.in-Some.is)
 
-pub put_line-requires-clause-room : goal.put_line-requires-clause-room
-put_line-requires-clause-room c = search pass_room
+pub put_line-requires : goal.put_line-requires
+put_line-requires c = search pass_room
 
 pub returns-in_err-next-clause-value : goal.returns-in_err-next-clause-value
 returns-in_err-next-clause-value c = let p = err_from_is_err_and c.from_residual.result c.from_residual.ensures.1 in rw (p.1, p.2) (search (pass_refused, c.in_err-next.was))

@@ -4,8 +4,8 @@ use Rattle.bdf.proofs.Walks.{same_here, same_then}
 use Rattle.bdf.proofs.Steps.{width_small}
 use Rattle.bdf.proofs.file.put_rows.Goals as goal
 
-pub strip_of-strip-requires-clause-le_glyphs : goal.strip_of-strip-requires-clause-le_glyphs
-strip_of-strip-requires-clause-le_glyphs c = search bitmap-glyph
+pub strip_of-strip-requires : goal.strip_of-strip-requires
+strip_of-strip-requires c = search bitmap-glyph
 
 pub loop-read-init : goal.loop-read-init
 loop-read-init c = (search rows_same, search rows_start, search same_here)

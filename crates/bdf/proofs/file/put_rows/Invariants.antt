@@ -4,4 +4,4 @@ use Rattle.bdf.specs.Walk.{Carries, SamePlace, rows_read}
 use Rattle.bdf.proofs.file.put_rows.Given as goal
 
 abbrev pub invariant-loop-read : goal.invariant-loop-read
-invariant-loop-read l = (l.present ≡ rows_read l.read l.fn.reader) × Carries l.fn.text l.initial.pieces.writing l.initial.pieces.size l.fn.reader l.initial.pieces.bytes.now l.present l.rest l.pieces.bytes.now × SamePlace l.initial.pieces l.pieces
+invariant-loop-read l = (l.present ≡ rows_read l.read l.fn.reader.state) × Carries l.fn.text l.initial.pieces.writing l.initial.pieces.size l.fn.reader.state l.initial.pieces.bytes.now l.present l.rest l.pieces.bytes.now × SamePlace l.initial.pieces l.pieces

@@ -14,8 +14,8 @@ put_spelling-requires c = search encoded_fits
 pub returns-in-Encoded : goal.returns-in-Encoded
 returns-in-Encoded c = search put_encoded
 
-pub strip_of-strip-requires-clause-le_glyphs : goal.strip_of-strip-requires-clause-le_glyphs
-strip_of-strip-requires-clause-le_glyphs c = search drawn_glyph
+pub strip_of-strip-requires : goal.strip_of-strip-requires
+strip_of-strip-requires c = search drawn_glyph
 
 pub put_row-requires : goal.put_row-requires
 put_row-requires c = search drawn_fits

@@ -1,6 +1,6 @@
 -- `step` meets its contract: outside a bitmap a comment is passed over. Assumes nothing.
 use Rattle.bdf.proofs.Steps.{step-bitmap, step-comment, step_line}
-use Rattle.bdf.proofs.reader.Reader.step.Goals as goal
+use Rattle.bdf.proofs.reader.SoundReader.step.Goals as goal
 
 pub returns-then-in_bitmap : goal.returns-then-in_bitmap
 returns-then-in_bitmap c = search step-bitmap

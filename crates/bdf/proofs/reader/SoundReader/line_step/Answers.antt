@@ -1,7 +1,7 @@
 -- `line_step` meets its contract: each line that may be expected is a case of the definition. Assumes nothing.
 use Rattle.bdf.proofs.Steps.{expected_is, expected_word, expected_count, expected_cell, expected_box, expected_encoding}
 use Rattle.bdf.specs.Reader.{line_step}
-use Rattle.bdf.proofs.reader.Reader.line_step.Goals as goal
+use Rattle.bdf.proofs.reader.SoundReader.line_step.Goals as goal
 
 pub returns-in-StartFont : goal.returns-in-StartFont
 unfolding line_step

@@ -1,6 +1,6 @@
 -- `bbx_line` meets its contract: the tests of a box in its cell decide, and what they leave makes a box. Assumes nothing.
 use Rattle.bdf.proofs.Steps.{box_wrong, box_bad, box_passed, box-box}
-use Rattle.bdf.proofs.reader.Reader.bbx_line.Goals as goal
+use Rattle.bdf.proofs.reader.SoundReader.bbx_line.Goals as goal
 
 pub returns-in_default : goal.returns-in_default
 returns-in_default c = search box_wrong
