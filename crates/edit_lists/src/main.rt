@@ -42,6 +42,7 @@ fn outside_kept(before: &[u8], after: &[u8], w: usize, area: Reply) -> bool {
 
 // ---- the list
 
+// Whether it is a batch; the kinds are the stored list's own numbers, and only looked at here.
 fn is_batch(bytes: &[u8]) -> bool {
     byte_at(bytes, 0) == 3
 }

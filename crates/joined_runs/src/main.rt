@@ -56,7 +56,7 @@ impl<'a> Content<'a> {
         }
     }
 
-    // How far behind a cut the next one is: behind the character there, or a step further; 0 if there is none.
+    // How far behind a cut the next one is: behind the character there, or a step further; 0 if there is none, which a stored step may be, too.
     fn cut_size(self, cut: usize) -> usize {
         match self {
             Content::Line(text) => station_walk(text, cut).next.saturating_sub(cut),

@@ -47,7 +47,7 @@ fn show_mapping(out: &impl Print, mapping: &[u8]) {
     let _ = print!(out; " fits, lists {}", listed(mapping));
 }
 
-// The glyph of a character in a mapping with replacement 9; index 0 and not listed in a mapping that is refused.
+// The glyph of a character in a mapping with replacement 9; index 0 and not listed in a mapping that is refused, as it is printed.
 fn glyph_in(mapping: &[u8], ch: u32) -> Glyph {
     match mapping::check_mapping(mapping) {
         Ok(()) => mapping::glyph_of(mapping, 9, ch),

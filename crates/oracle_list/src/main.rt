@@ -135,7 +135,7 @@ fn first_call(list: &[u8]) -> Option<(Call<'_>, &[u8])>
 
 // ---- the calls
 
-// Makes a call of the list.
+// Makes a call of the list, by its kind: the stored list's own number, which is printed as one.
 fn make_call(sheet: &mut [u8], frame: &mut [u8], output: &mut [u8], call: Call<'_>) -> Reply {
     let first = call.first();
     let second = call.second();

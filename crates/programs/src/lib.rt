@@ -62,7 +62,7 @@ impl fmt::Display for Sides {
     }
 }
 
-// Why a program writes nothing else.
+// Why a program writes nothing else; a refusal by its number, as a reply of the C interface has it.
 #[derive(Clone, Copy)]
 pub enum Fault {
     Refused(u32),

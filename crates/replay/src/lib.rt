@@ -69,7 +69,7 @@ pub fn length_at(bytes: &[u8], at: usize) -> usize
     (u32_of(rest(bytes, at)) as usize).min(65536)
 }
 
-// The entries of a list, each from its start to the list's end; one of no size is the last.
+// The entries of a list, each from its start to the list's end; one of no size is the last, since it would come again and again.
 #[derive(Drop)]
 pub struct Entries<'a, F> {
     rest: &'a [u8],
