@@ -134,7 +134,10 @@ fn draw_whitespace_in(item: ItemRecord<'_>, frame: &mut Frame, width: u32) -> Po
 {
     let layout = item.layout();
     let p = layout.position;
-    let offset = layout.metrics.font.baseline_offset(layout.text_style.baseline);
+    let offset = layout
+        .metrics
+        .font
+        .baseline_offset(layout.text_style.baseline);
     let corner = Point {
         x: p.x,
         y: p.y.saturating_sub(offset),
