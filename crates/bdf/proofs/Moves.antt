@@ -22,8 +22,7 @@ use Rattle.bdf_lines.specs.Words.{words, same, is_alone, is_named, is_comment, h
 use Rattle.bdf_lines.specs.Keywords as word
 use Rattle.bdf_lines.proofs.FirstWords.{begins, no_comment, named_begins, alone_begins, numbers_begin, four_begins, encoding_begins, alone_no_pair}
 use Rattle.bdf.specs.Reader.{order, expecting, leaving, encoding_line, bbx_line, line_step, in_bitmap, step}
-use Rattle.bdf.specs.declared.file.Pieces.{Pieces}
-use Rattle.bdf.specs.Walk.{Carries, SamePlace}
+use Rattle.bdf.specs.Walk.{Carries}
 use Rattle.bdf.specs.Usual.{UsualMove, UsualAnswer}
 use Rattle.bdf_lines.proofs.Stands.{not_some, found_is}
 use Rattle.bdf.proofs.Steps.{step_line, expected_is}
@@ -165,14 +164,14 @@ module _ (text : List ℕ) (r : Reader) (x : Option (Result Answer Refusal × �
 -- ---- a move in the pass over a file, after bitmap lines
 
 module _ (text : List ℕ) (s : Reader) (x : Option (Reader × ℕ)) (u : UsualMove text s x) (t : Reader) (to : ℕ) (e : x ≡ Some (t, to)) where
-  module _ (r : Reader) (rest : List ℕ) (old mid : Pieces) (d : Carries rest old.writing old.size r old.bytes.now s text mid.bytes.now) where
+  module _ (w : Bool) (size : ℕ) (r : Reader) (rest old mid : List ℕ) (d : Carries rest w size r old s text mid) where
     pub move_less : length (take (length text - to) (drop to text)) < length rest
     move_less = let l = (u.found t to e).0 in rw (part_rest text to) (omega (arith, length-drop to text, d.onward, l.ends, l.inside))
 
-    pub move_on : (file : List ℕ) (before : Pieces) → Passing file before r rest old → SamePlace old mid → Passing file before t (take (length text - to) (drop to text)) mid
-    move_on file before c k =
+    pub move_on : (file out : List ℕ) → Passing file w size out r rest old → Passing file w size out t (take (length text - to) (drop to text)) mid
+    move_on file out c =
         let l = u.found t to e in
         let q : to ≡ line_length text + 1 = omega (arith, l.0.ends) in
-        rw (part_rest text to) (passing_on file before r rest old c t (drop to text) mid
-        (rw q (carries_line rest old.writing old.size r old.bytes.now s text mid.bytes.now d (Ok (Passed t)) (line_length text) (sym l.1) refl (omega (arith, l.0.ends, l.0.inside)) refl t mid.bytes.now refl
-        (put_passed old.size s t (Passed t) mid.bytes.now [] old.writing refl) refl)) k)
+        rw (part_rest text to) (passing_on file w size out r rest old c t (drop to text) mid
+        (rw q (carries_line rest w size r old s text mid d (Ok (Passed t)) (line_length text) (sym l.1) refl (omega (arith, l.0.ends, l.0.inside)) refl t mid refl
+        (put_passed size s t (Passed t) mid [] w refl) refl)))

@@ -16,10 +16,9 @@ use Rattle.bdf.specs.declared.reader.Reader.{Reader}
 use Rattle.bdf.specs.declared.reader.Answer.{Answer}
 use Rattle.bdf.specs.Reader.{file_lines, start, step, reader_of, after, first_refusal, last_reader}
 use Rattle.bdf.specs.Within.{Within}
-use Rattle.bdf.specs.declared.file.Pieces.{Pieces}
-use Rattle.bdf.specs.Walk.{Measured, put_if, put_lines_if, SamePlace, Room, Carries, LineOver, AnswerFits}
+use Rattle.bdf.specs.Walk.{Measured, put_if, put_lines_if, Room, Carries, LineOver, AnswerFits}
 use Rattle.bdf.proofs.Invariant.{within-start}
-use Rattle.bdf.proofs.Walks.{same_here, same_then, not_ok, ok_is, err_is, lines_more_here, lines_last_here, carries_none, carries_on, carries_line, last_line, line-refusal, put_kept, room_kept}
+use Rattle.bdf.proofs.Walks.{not_ok, ok_is, err_is, lines_more_here, lines_last_here, carries_none, carries_on, carries_line, last_line, line-refusal, put_kept, room_kept}
 use Rattle.bdf.proofs.Strips.{answer_fits}
 
 -- ---- one line
@@ -60,53 +59,37 @@ module _ (text : List ℕ) (w : Bool) (size : ℕ) (r : Reader) (out : List ℕ)
 -- ---- all lines
 
 -- from the first line to the rest of a file, with room for what the file says, and no refusal if it is written
-pub record Passing (file : List ℕ) (before : Pieces) (r : Reader) (rest : List ℕ) (pieces : Pieces) : Type 0 where
-  pub carries : Carries file before.writing before.size start before.bytes.now r rest pieces.bytes.now
-  pub place : SamePlace before pieces
-  pub room : Room before.writing (last_reader start (file_lines file)) before.size (length before.bytes.now)
-  pub good : before.writing ≡ true → first_refusal start (file_lines file) ≡ 0
+pub record Passing (file : List ℕ) (w : Bool) (size : ℕ) (out : List ℕ) (r : Reader) (rest mid : List ℕ) : Type 0 where
+  pub carries : Carries file w size start out r rest mid
+  pub room : Room w (last_reader start (file_lines file)) size (length out)
+  pub good : w ≡ true → first_refusal start (file_lines file) ≡ 0
 
 -- the rest of a text from a position on
 pub part_rest : (text : List ℕ) (to : ℕ) → take (length text - to) (drop to text) ≡ drop to text
 part_rest text to = take_all (length text - to) (drop to text) (omega (arith, length-drop to text))
 
-module _ (file : List ℕ) (before : Pieces) where
-  abbrev w : Bool
-  w = before.writing
-
-  abbrev size : ℕ
-  size = before.size
-
-  abbrev out : List ℕ
-  out = before.bytes.now
-
+module _ (file : List ℕ) (w : Bool) (size : ℕ) (out : List ℕ) where
   -- before the first line
   pub pass_start : Room w (last_reader start (file_lines file)) size (length out) → (w ≡ true → first_refusal start (file_lines file) ≡ 0) → (r : Reader) → r ≡ start
-      → Passing file before r file before
-  pass_start m g r e = rw e (record { carries = carries_none file w size start out within-start; place = same_here before; room = m; good = g })
+      → Passing file w size out r file out
+  pass_start m g r e = rw e (record { carries = carries_none file w size start out within-start; room = m; good = g })
 
-  module _ (r : Reader) (rest : List ℕ) (old : Pieces) (c : Passing file before r rest old) where
-    pub pass_here : Room old.writing (last_reader r (file_lines rest)) old.size (length old.bytes.now)
-    pass_here = rw (c.place.same_size, c.place.same_writing) (room_kept file w size start out r rest old.bytes.now c.carries c.room)
+  module _ (r : Reader) (rest old : List ℕ) (c : Passing file w size out r rest old) where
+    pub pass_here : Room w (last_reader r (file_lines rest)) size (length old)
+    pass_here = room_kept file w size start out r rest old c.carries c.room
 
     -- further on
-    pub passing_on : (s : Reader) (text : List ℕ) (mid : Pieces) → Carries rest old.writing old.size r old.bytes.now s text mid.bytes.now → SamePlace old mid → Passing file before s text mid
-    passing_on s text mid d k = record {
-      carries = carries_on file w size start out r rest old.bytes.now c.carries s text mid.bytes.now (rw (c.place.same_size, c.place.same_writing) at d);
-      place = same_then before old mid c.place k;
-      room = c.room;
-      good = c.good;
-    }
+    pub passing_on : (s : Reader) (text mid : List ℕ) → Carries rest w size r old s text mid → Passing file w size out s text mid
+    passing_on s text mid d = record { carries = carries_on file w size start out r rest old c.carries s text mid d; room = c.room; good = c.good }
 
-  module _ (r : Reader) (rest : List ℕ) (old : Pieces) (c : Passing file before r rest old) (s : Reader) (text : List ℕ) (mid : Pieces)
-      (d : Carries rest old.writing old.size r old.bytes.now s text mid.bytes.now) (k : SamePlace old mid) where
-    both : Passing file before s text mid
-    both = passing_on r rest old c s text mid d k
+  module _ (r : Reader) (rest old : List ℕ) (c : Passing file w size out r rest old) (s : Reader) (text mid : List ℕ) (d : Carries rest w size r old s text mid) where
+    both : Passing file w size out s text mid
+    both = passing_on r rest old c s text mid d
 
-    pub pass_room : Room mid.writing (last_reader s (file_lines text)) mid.size (length mid.bytes.now)
+    pub pass_room : Room w (last_reader s (file_lines text)) size (length mid)
     pass_room = pass_here s text mid both
 
-    module _ (x : Result (Reader × ℕ) Refusal) (exit : Pieces) (l : LineOver text mid.writing mid.size s mid.bytes.now x exit.bytes.now) where
+    module _ (x : Result (Reader × ℕ) Refusal) (exit : List ℕ) (l : LineOver text w size s mid x exit) where
       module _ (n : Refusal) (z : x ≡ Err n) where
         refused-code : number n ≡ first_refusal start (file_lines file)
         refused-code = (l.refused n z).0 ∙ both.carries.same_refusal
@@ -115,15 +98,12 @@ module _ (file : List ℕ) (before : Pieces) where
         pass_refused = record { code = refused-code; last = λ t o. absurd (not_ok o) }
 
         -- a file that is written has no such line
-        pub pass_kept : exit.bytes.now ≡ put_lines_if w size start (file_lines file) out
-        pass_kept = (l.refused n z).1 ∙ put_kept file w size start out s text mid.bytes.now both.carries both.good n refused-code
-
-      pub pass_place : SamePlace mid exit → SamePlace before exit
-      pass_place p = same_then before mid exit both.place p
+        pub pass_kept : exit ≡ put_lines_if w size start (file_lines file) out
+        pass_kept = (l.refused n z).1 ∙ put_kept file w size start out s text mid both.carries both.good n refused-code
 
       module _ (t : Reader) (end : ℕ) (z : x ≡ Ok (t, end)) where
-        pub pass_on : SamePlace mid exit → end < length text → Passing file before t (take (length text - (end + 1)) (drop (end + 1) text)) exit
-        pass_on p h = rw (part_rest text (end + 1)) (passing_on s text mid both t (drop (end + 1) text) exit (l.more t end z h) p)
+        pub pass_on : end < length text → Passing file w size out t (take (length text - (end + 1)) (drop (end + 1) text)) exit
+        pass_on h = rw (part_rest text (end + 1)) (passing_on s text mid both t (drop (end + 1) text) exit (l.more t end z h))
 
         module _ (h : length text ≤ end) where
           pub pass_end : (y : Result Reader Refusal) → Measured y t [] → Measured y start (file_lines file)
@@ -135,8 +115,8 @@ module _ (file : List ℕ) (before : Pieces) where
                 last = λ u o. m.last u o ∙ over.same_last ∙ both.carries.same_last;
               }
 
-          pub pass_put : exit.bytes.now ≡ put_lines_if w size start (file_lines file) out
-          pass_put = (rw (both.place.same_size, both.place.same_writing) at (l.last t end z h).put_whole) ∙ both.carries.same-put
+          pub pass_put : exit ≡ put_lines_if w size start (file_lines file) out
+          pass_put = (l.last t end z h).put_whole ∙ both.carries.same-put
 
     pub pass_less : (end : ℕ) → end < length text → length (take (length text - (end + 1)) (drop (end + 1) text)) < length rest
     pass_less end h = rw (part_rest text (end + 1)) (omega (arith, length-drop (end + 1) text, d.onward))

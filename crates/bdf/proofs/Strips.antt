@@ -297,12 +297,12 @@ module _ (file : List ℕ) (w : Bool) (size : ℕ) (r : Reader) (out : List ℕ)
     pub row_end_fits : Fits w64 (length file) → Fits w64 (end + 1)
     row_end_fits l = omega (arith, (f.found bits end e).more, carried.onward)
 
-    pub row_strip_fits : Room w (last_reader r (file_lines file)) size (length out) → (v : Bool) → v ≡ w → (s : Strip) → s ≡ strip_of r → StripFits v s i bits (length mid)
+    pub row_strip_fits : Room w (last_reader r (file_lines file)) size (length out) → (s : Strip) → s ≡ strip_of r → StripFits w s i bits (length mid)
     unfolding strip_of
-    row_strip_fits m v o s q =
+    row_strip_fits m s q =
         let g = gathered here (file_lines rest) carried.within in
         let k = glyphs-counted here (file_lines rest) in
-        rw (o, q) (strip_fits w here (last_reader here (file_lines rest)) size (length mid) carried.within (room_kept file w size r out here rest mid carried m) refl (g.cell (omega arith)) (omega arith)
+        rw q (strip_fits w here (last_reader here (file_lines rest)) size (length mid) carried.within (room_kept file w size r out here rest mid carried m) refl (g.cell (omega arith)) (omega arith)
         i bits less (bits_small r.bbx.width bits (line_at rest 0) (f.found bits end e).bitmap))
 
     -- over one
@@ -312,10 +312,10 @@ module _ (file : List ℕ) (w : Bool) (size : ℕ) (r : Reader) (out : List ℕ)
     pub rows_next : next ≡ rows_read (i + 1) r
     rows_next = rw same
 
-    pub rows_step : (v : Bool) → v ≡ w → (s : Strip) (exit : List ℕ) → s ≡ strip_of r → exit ≡ put_strip_if v s i bits mid → length exit ≡ length mid → Carries file w size r out next (take (length rest - (end + 1)) (drop (end + 1) rest)) exit
+    pub rows_step : (s : Strip) (exit : List ℕ) → s ≡ strip_of r → exit ≡ put_strip_if w s i bits mid → length exit ≡ length mid → Carries file w size r out next (take (length rest - (end + 1)) (drop (end + 1) rest)) exit
     unfolding in_bitmap strip_of
-    rows_step v o s exit q t m =
+    rows_step s exit q t m =
         let b : in_bitmap here ≡ true = lt-ltb i r.bbx.height less in
         let d : Ok (Drawn (with_row here) bits) ≡ step here (line_at rest 0) = row_step here (line_at rest 0) bits b (f.found bits end e).bitmap in
         rw (rows_next, take_all (length rest - (end + 1)) (drop (end + 1) rest) (omega (arith, length-drop (end + 1) rest))) (carries_line file w size r out here rest mid carried (Ok (Drawn (with_row here) bits)) end d (omega (arith, (f.found bits end e).ends)) (f.found bits end e).more refl (with_row here) exit refl
-        (put_drawn size here (with_row here) (Drawn (with_row here) bits) mid exit w bits s refl q (rw o at t)) m)
+        (put_drawn size here (with_row here) (Drawn (with_row here) bits) mid exit w bits s refl q t) m)

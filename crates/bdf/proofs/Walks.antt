@@ -22,8 +22,7 @@ use Rattle.bdf.specs.Reader.{file_lines, order, in_bitmap, with_row, row_line, s
 use Rattle.bdf_lines.specs.Words.{words, row_of}
 use Rattle.bdf.specs.Writing.{put_lines}
 use Rattle.bdf.specs.Within.{Within}
-use Rattle.bdf.specs.declared.file.Pieces.{Pieces}
-use Rattle.bdf.specs.Walk.{Measured, put_if, put_lines_if, SamePlace, Room, Carries, LastLine}
+use Rattle.bdf.specs.Walk.{Measured, put_if, put_lines_if, Room, Carries, LastLine}
 use Rattle.characters.specs.Lines.{line_length, without_return}
 use lib.Seq.{length-take-le}
 use Rattle.characters.proofs.Feeds.{end_reach, line_part, lines_more, lines_last}
@@ -53,20 +52,6 @@ module _ {A : Type 0} where
   pub err_is : (n k : Refusal) → ◌≡◌ {A = Result A Refusal} (Err n) (Err k) → n ≡ k
   unfolding err_of
   err_is n k e = ap (err_of n) e
-
--- ---- the pieces, lent again
-
-module _ (p : Pieces) where
-  pub same_here : SamePlace p p
-  same_here = record { same_bytes = refl; same_size = refl; same_writing = refl; same_length = refl }
-
-  pub same_then : (q r : Pieces) → SamePlace p q → SamePlace q r → SamePlace p r
-  same_then q r a b = record {
-    same_bytes = b.same_bytes ∙ a.same_bytes;
-    same_size = b.same_size ∙ a.same_size;
-    same_writing = b.same_writing ∙ a.same_writing;
-    same_length = b.same_length ∙ a.same_length;
-  }
 
 -- ---- a line, and the rest
 

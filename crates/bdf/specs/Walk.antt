@@ -10,7 +10,6 @@ use Rattle.bdf.specs.declared.reader.Answer.TheVariants as answer
 use Rattle.refusals.specs.declared.Refusal.{Refusal}
 use Rattle.refusals.specs.Numbers.{number, refusal_of}
 use Rattle.bdf.specs.declared.file.Strip.{Strip}
-use Rattle.bdf.specs.declared.file.Pieces.{Pieces}
 use Rattle.bdf.specs.Reader.{spelling, start, first_refusal, last_reader, file_lines}
 use Rattle.bdf.specs.Font.{ink_left, ink_top, stride, atlas_size, refusal}
 use Rattle.bdf.specs.Writing.{with_bits, put, put_lines}
@@ -29,13 +28,6 @@ put_if false size r a out = out
 abbrev pub put_lines_if : Bool → ℕ → Reader → List (List ℕ) → List ℕ → List ℕ
 put_lines_if true size r ls out = put_lines size r ls out
 put_lines_if false size r ls out = out
-
--- the pieces lie where they lay, with as many bytes and an atlas of the same size, and are still written or not
-pub record SamePlace (before after : Pieces) : Type 0 where
-  pub same_bytes : after.bytes.ghost_name ≡ before.bytes.ghost_name
-  pub same_size : after.size ≡ before.size
-  pub same_writing : after.writing ≡ before.writing
-  pub same_length : length after.bytes.now ≡ length before.bytes.now
 
 -- room for the atlas and the mapping that `last` has measured, if they are written
 pub record Room (writing : Bool) (last : Reader) (size n : ℕ) : Type 0 where

@@ -1,9 +1,9 @@
 // A font file, line by line: once tested and measured, once written.
-ghost use Rattle.std.specs.Prelude.{◌≡◌, ◌+◌, ◌≤◌, length, [], true};
+ghost use Rattle.std.specs.Prelude.{◌≡◌, ◌+◌, ◌≤◌, length, [], true, Ok};
 ghost use Rattle.characters.specs.Lines.{line_length};
 ghost use Rattle.bdf.specs.Reader.{start, in_bitmap, step, first_refusal, last_reader, file_lines};
 ghost use Rattle.bdf_lines.specs.Forms.{line_at};
-ghost use Rattle.bdf.specs.Walk.{Measured, put_lines_if, Room, Carries, LineOver, SamePlace, strip_of};
+ghost use Rattle.bdf.specs.Walk.{Measured, put_if, put_lines_if, Room, Carries, LineOver, strip_of, put_strip_if, StripFits, put_spelling_if, SpellingFits, AnswerFits};
 
 use super::reader::{Answer, Expected, Reader, SoundReader};
 use super::{glyphs, usual};
@@ -61,77 +61,34 @@ fn strip_of(reader: SoundReader) -> Strip
     }
 }
 
-// The bytes of the atlas, `size` of them, and of the mapping after it, which a pass writes if `writing` is set. The flag stands beside the
-// slice: of an Option of it every clause would speak by cases.
-#[derive(Drop)]
-pub struct Pieces<'a> {
-    pub bytes: &'a mut [u8],
-    pub size: usize,
-    pub writing: bool,
+// `Room` and the facts like it stay clauses: each ties the lent pieces to a file and a pass, and the pieces are lent anew for each line. The
+// pieces, their size and the flag stay parameters: as one lent struct they were tried and proved, and reading was slower by a fifth.
+
+// Puts a bitmap line into the atlas, if it is written. The flag stands beside the slice, since a lent slice in an Option would be lent anew for each line.
+fn put_row(pieces: &mut [u8], writing: bool, strip: Strip, i: usize, bits: u64)
+    requires { StripFits writing strip i bits (length pieces.old) }
+    ensures { pieces.new ≡ put_strip_if writing strip i bits pieces.old }
+{
+    if !writing {
+        return;
+    }
+    let stride = strip.stride;
+    let at = (strip.top + i) * stride;
+    let to = at + stride;
+    glyphs::put_bits(&mut pieces[at..to], strip.left, strip.right, bits);
 }
-
-impl<'a> Pieces<'a> {
-    ghost use Rattle.std.specs.Prelude.{◌≡◌, ◌≤◌, length, Ok};
-    ghost use Rattle.bdf.specs.Walk.{SamePlace, put_if, StripFits, put_strip_if, SpellingFits, put_spelling_if, AnswerFits};
-
-    // Puts a bitmap line into the atlas, if it is written.
-    fn put_row(&mut self, strip: Strip, i: usize, bits: u64)
-        requires { StripFits self.old.writing strip i bits (length self.old.bytes.now) }
-        ensures bytes_after { self.new.bytes.now ≡ put_strip_if self.old.writing strip i bits self.old.bytes.now }
-        ensures same_place { SamePlace self.old self.new }
-    {
-        if !self.writing {
-            return;
-        }
-        let stride = strip.stride;
-        let at = (strip.top + i) * stride;
-        let to = at + stride;
-        glyphs::put_bits(&mut self.bytes[at..to], strip.left, strip.right, bits);
-    }
-
-    // Puts a character into the mapping, if it is written.
-    fn put_spelling(&mut self, from: usize, to: usize, v: u32)
-        requires { SpellingFits self.old.writing from to v (length self.old.bytes.now) }
-        ensures bytes_after { self.new.bytes.now ≡ put_spelling_if self.old.writing from v self.old.bytes.now }
-        ensures same_place { SamePlace self.old self.new }
-    {
-        if !self.writing {
-            return;
-        }
-        glyphs::put_character(&mut self.bytes[from..to], v);
-    }
-
-    // Puts what a line says, if it is written.
-    fn put(&mut self, reader: SoundReader, answer: Answer)
-        requires size_bound { self.old.size ≤ 100_000_000 }
-        requires answer_fits { AnswerFits self.old.writing self.old.size reader.state (Ok answer) (length self.old.bytes.now) }
-        ensures bytes_after { self.new.bytes.now ≡ put_if self.old.writing self.old.size reader.state (Ok answer) self.old.bytes.now }
-        ensures same_place { SamePlace self.old self.new }
-    {
-        match answer {
-            Answer::Passed(_) => {}
-            Answer::Boxed(_) => {}
-            Answer::Encoded(next, v) => {
-                let from = self.size + reader.state.mapping as usize;
-                let to = self.size + next.mapping as usize;
-                self.put_spelling(from, to, v);
-            }
-            Answer::Drawn(_, bits) => {
-                let strip = strip_of(reader);
-                self.put_row(strip, reader.state.read as usize, bits);
-            }
-        }
-    }
-}
-
-// `Room` and the facts like it stay clauses: each ties the pieces to a file and the rest of it, which changes with each line.
 
 // Passes over bitmap lines that end in a feed, and puts them into the atlas, if it is written.
-fn put_rows<'a>(text: &'a [u8], pieces: &mut Pieces, reader: SoundReader) -> Position<'a>
+fn put_rows<'a>(
+    text: &'a [u8],
+    pieces: &mut [u8],
+    size: usize,
+    writing: bool,
+    reader: SoundReader,
+) -> Position<'a>
     requires reader_value { in_bitmap reader.state ≡ true }
-    requires room { Room pieces.old.writing (last_reader reader.state (file_lines text.now)) pieces.old.size (length pieces.old.bytes.now) }
-    ensures carries { Carries text.now pieces.old.writing pieces.old.size reader.state pieces.old.bytes.now result.reader.state result.rest.now pieces.new.bytes.now }
-    ensures same_place { SamePlace pieces.old pieces.new }
+    requires room { Room writing (last_reader reader.state (file_lines text.now)) size (length pieces.old) }
+    ensures { Carries text.now writing size reader.state pieces.old result.reader.state result.rest.now pieces.new }
 {
     let strip = strip_of(reader);
     let state = reader.state;
@@ -142,7 +99,7 @@ fn put_rows<'a>(text: &'a [u8], pieces: &mut Pieces, reader: SoundReader) -> Pos
         let Some((bits, end)) = forms::row_at(rest, width) else {
             break;
         };
-        pieces.put_row(strip, read as usize, bits);
+        put_row(pieces, writing, strip, read as usize, bits);
         present.read = read + 1;
         rest = &rest[end + 1..];
     }
@@ -153,30 +110,68 @@ fn put_rows<'a>(text: &'a [u8], pieces: &mut Pieces, reader: SoundReader) -> Pos
 }
 
 // Passes over bitmap lines, where they are next.
-fn rows_at<'a>(text: &'a [u8], pieces: &mut Pieces, reader: SoundReader) -> Position<'a>
-    requires room { Room pieces.old.writing (last_reader reader.state (file_lines text.now)) pieces.old.size (length pieces.old.bytes.now) }
-    ensures carries { Carries text.now pieces.old.writing pieces.old.size reader.state pieces.old.bytes.now result.reader.state result.rest.now pieces.new.bytes.now }
-    ensures same_place { SamePlace pieces.old pieces.new }
+fn rows_at<'a>(
+    text: &'a [u8],
+    pieces: &mut [u8],
+    size: usize,
+    writing: bool,
+    reader: SoundReader,
+) -> Position<'a>
+    requires room { Room writing (last_reader reader.state (file_lines text.now)) size (length pieces.old) }
+    ensures { Carries text.now writing size reader.state pieces.old result.reader.state result.rest.now pieces.new }
 {
     if reader.state.in_bitmap() {
-        return put_rows(text, pieces, reader);
+        return put_rows(text, pieces, size, writing, reader);
     }
     Position { reader, rest: text }
+}
+
+// Puts a character into the mapping that follows an atlas of `size` bytes, if it is written.
+fn put_spelling(pieces: &mut [u8], writing: bool, from: usize, to: usize, v: u32)
+    requires { SpellingFits writing from to v (length pieces.old) }
+    ensures { pieces.new ≡ put_spelling_if writing from v pieces.old }
+{
+    if !writing {
+        return;
+    }
+    glyphs::put_character(&mut pieces[from..to], v);
+}
+
+// Puts what a line says, if it is written.
+fn put(pieces: &mut [u8], size: usize, writing: bool, reader: SoundReader, answer: Answer)
+    requires size_bound { size ≤ 100_000_000 }
+    requires answer_fits { AnswerFits writing size reader.state (Ok answer) (length pieces.old) }
+    ensures { pieces.new ≡ put_if writing size reader.state (Ok answer) pieces.old }
+{
+    match answer {
+        Answer::Passed(_) => {}
+        Answer::Boxed(_) => {}
+        Answer::Encoded(next, v) => {
+            let from = size + reader.state.mapping as usize;
+            let to = size + next.mapping as usize;
+            put_spelling(pieces, writing, from, to, v);
+        }
+        Answer::Drawn(_, bits) => {
+            let strip = strip_of(reader);
+            put_row(pieces, writing, strip, reader.state.read as usize, bits);
+        }
+    }
 }
 
 // Reads the first line of the rest of a file, and puts what it says, if it is written: the reader after it, and where it ends.
 fn put_line(
     text: &[u8],
-    pieces: &mut Pieces,
+    pieces: &mut [u8],
+    size: usize,
+    writing: bool,
     reader: SoundReader,
 ) -> Result<(Reader, usize), Refusal>
-    requires room { Room pieces.old.writing (last_reader reader.state (file_lines text.now)) pieces.old.size (length pieces.old.bytes.now) }
-    ensures line_over { LineOver text.now pieces.old.writing pieces.old.size reader.state pieces.old.bytes.now result pieces.new.bytes.now }
-    ensures same_place { SamePlace pieces.old pieces.new }
+    requires room { Room writing (last_reader reader.state (file_lines text.now)) size (length pieces.old) }
+    ensures { LineOver text.now writing size reader.state pieces.old result pieces.new }
 {
     let (line, end) = first_line(text, reader);
     let answer = line?;
-    pieces.put(reader, answer);
+    put(pieces, size, writing, reader, answer);
     Ok((answer.reader(), end))
 }
 
@@ -191,19 +186,18 @@ fn finished(reader: Reader) -> Result<Reader, Refusal>
     }
 }
 
-// Reads a file whole, and puts its atlas and its mapping, if they are written: the reader after its last line.
-pub fn pass(file: &[u8], pieces: &mut Pieces) -> Result<Reader, Refusal>
-    requires room { Room pieces.old.writing (last_reader start (file_lines file.now)) pieces.old.size (length pieces.old.bytes.now) }
-    requires file_value { pieces.old.writing ≡ true → first_refusal start (file_lines file.now) ≡ 0 }
+// Reads a file whole, and puts its atlas of `size` bytes and its mapping, if they are written: the reader after its last line.
+pub fn pass(file: &[u8], pieces: &mut [u8], size: usize, writing: bool) -> Result<Reader, Refusal>
+    requires room { Room writing (last_reader start (file_lines file.now)) size (length pieces.old) }
+    requires file_value { writing ≡ true → first_refusal start (file_lines file.now) ≡ 0 }
     ensures value { Measured result start (file_lines file.now) }
-    ensures pieces_after { pieces.new.bytes.now ≡ put_lines_if pieces.old.writing pieces.old.size start (file_lines file.now) pieces.old.bytes.now }
-    ensures same_place { SamePlace pieces.old pieces.new }
+    ensures pieces_after { pieces.new ≡ put_lines_if writing size start (file_lines file.now) pieces.old }
 {
     let mut reader = Reader::start();
     let mut rest = file;
     // No iterator of lines: bitmap lines, a usual line and any other each leave the rest of the file where they ended.
     loop {
-        let position = rows_at(rest, pieces, SoundReader { state: reader });
+        let position = rows_at(rest, pieces, size, writing, SoundReader { state: reader });
         let present = position.reader;
         let text = position.rest;
         if let Some((next, to)) = usual::move_at(text, present.state) {
@@ -211,7 +205,7 @@ pub fn pass(file: &[u8], pieces: &mut Pieces) -> Result<Reader, Refusal>
             rest = &text[to..];
             continue;
         }
-        let (next, end) = put_line(text, pieces, present)?;
+        let (next, end) = put_line(text, pieces, size, writing, present)?;
         reader = next;
         if text.len() <= end {
             return finished(reader);

@@ -6,7 +6,6 @@ ghost use Rattle.refusals.specs.Numbers.{refusal_of};
 ghost use Rattle.bdf.specs.Font.{font_of, font_bytes, read_code, written};
 ghost use Rattle.bdf.specs.Walk.{IsMeasured};
 
-use file::Pieces;
 use reader::Reader;
 use refusals::Refusal;
 
@@ -45,12 +44,7 @@ impl<'a> MeasuredFile<'a> {
     {
         let size = self.atlas_size();
         glyphs::clear(&mut pieces[0..size]);
-        let mut pieces = Pieces {
-            bytes: pieces,
-            size,
-            writing: true,
-        };
-        let _ = file::pass(self.file, &mut pieces);
+        let _ = file::pass(self.file, pieces, size, true);
     }
 
     // Writes its font.
@@ -85,11 +79,6 @@ pub fn read(file: &[u8], output: &mut [u8]) -> Result<u32, Refusal>
     ensures font_length { IfOk result (λ n. n ≡ length (font_bytes (font_of file.now))) }
     ensures output_after { output.new ≡ written file.now output.old }
 {
-    let mut pieces = Pieces {
-        bytes: &mut [],
-        size: 0,
-        writing: false,
-    };
-    let last = file::pass(file, &mut pieces)?;
+    let last = file::pass(file, &mut [], 0, false)?;
     MeasuredFile { file, last }.write(output)
 }

@@ -1,5 +1,4 @@
 -- `MeasuredFile::write_pieces` meets its contract: the lines put the font's atlas and mapping over a cleared atlas. Assumes nothing.
-use native.Mathlib.Omega.{arith}
 use Rattle.bdf.proofs.Fonts.{pieces_room, pieces_good, pieces-written}
 use Rattle.bdf.proofs.MeasuredFile.write_pieces.Goals as goal
 
@@ -10,7 +9,4 @@ pub pass-requires-clause-file_value : goal.pass-requires-clause-file_value
 pass-requires-clause-file_value c = search pieces_good
 
 pub returns : goal.returns
-returns c =
-    let p = pieces-written _ _ c.args.self.now.is_measured _ c.atlas_size-size.ensures _ _ c.requires c.clear.ensures _ c.pass.ensures.pieces_after in
-    let q = c.pass.ensures.same_place.same_bytes in
-    grind arith
+returns c = search pieces-written

@@ -1,6 +1,6 @@
 -- `pass` meets its contract. The invariant: what the lines so far come to and put is what the rest leaves. Assumes nothing.
 use Rattle.std.proofs.lemmas.Result.{err_from_is_err_and}
-use Rattle.bdf.proofs.Passes.{pass_start, pass_here, pass_room, pass_refused, pass_kept, pass_on, pass_end, pass_put, pass_place, pass_less}
+use Rattle.bdf.proofs.Passes.{pass_start, pass_here, pass_room, pass_refused, pass_kept, pass_on, pass_end, pass_put, pass_less}
 use Rattle.bdf.proofs.Moves.{move_less, move_on}
 use Rattle.bdf.proofs.file.pass.Goals as goal
 
@@ -36,9 +36,3 @@ loop-next-smaller c = search pass_less
 
 pub loop-next-preserved : goal.loop-next-preserved
 loop-next-preserved c = search (pass_on, c.in_ok-next.was)
-
-pub returns-in_err-next-clause-same_place : goal.returns-in_err-next-clause-same_place
-returns-in_err-next-clause-same_place c = search pass_place
-
-pub returns-then-text-end-clause-same_place : goal.returns-then-text-end-clause-same_place
-returns-then-text-end-clause-same_place c = search pass_place

@@ -1,6 +1,5 @@
 -- `put_rows` meets its contract. The invariant: what the bitmap lines so far come to and put is what the rest leaves. Assumes nothing.
 use Rattle.bdf.proofs.Strips.{bitmap-glyph, rows_same, rows_start, rows_next, row_strip_fits, row_end_fits, rows_step}
-use Rattle.bdf.proofs.Walks.{same_here, same_then}
 use Rattle.bdf.proofs.Steps.{width_small}
 use Rattle.bdf.proofs.file.put_rows.Goals as goal
 
@@ -8,7 +7,7 @@ pub strip_of-strip-requires : goal.strip_of-strip-requires
 strip_of-strip-requires c = search bitmap-glyph
 
 pub loop-read-init : goal.loop-read-init
-loop-read-init c = (search rows_same, search rows_start, search same_here)
+loop-read-init c = (search rows_same, search rows_start)
 
 pub row_at-requires : goal.row_at-requires
 row_at-requires c = search width_small
@@ -20,4 +19,4 @@ pub overflow_add-rest : goal.overflow_add-rest
 overflow_add-rest c = search row_end_fits
 
 pub loop-read-preserved : goal.loop-read-preserved
-loop-read-preserved c = (search rows_next, search rows_step, search same_then)
+loop-read-preserved c = (search rows_next, search rows_step)

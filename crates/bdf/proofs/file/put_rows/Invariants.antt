@@ -1,7 +1,8 @@
--- `put_rows` meets its contract. The invariant: from the first line to the present one what the rest comes to and puts stays. Assumes nothing.
+-- `put_rows` meets its contract. The invariant: the table is the table of digits, and from the first line to the present one what the rest comes to and puts stays.
+-- Assumes nothing.
 use mathlib.Core.Path.{◌≡◌}
-use Rattle.bdf.specs.Walk.{Carries, SamePlace, rows_read}
+use Rattle.bdf.specs.Walk.{Carries, rows_read}
 use Rattle.bdf.proofs.file.put_rows.Given as goal
 
 abbrev pub invariant-loop-read : goal.invariant-loop-read
-invariant-loop-read l = (l.present ≡ rows_read l.read l.fn.reader.state) × Carries l.fn.text l.initial.pieces.writing l.initial.pieces.size l.fn.reader.state l.initial.pieces.bytes.now l.present l.rest l.pieces.bytes.now × SamePlace l.initial.pieces l.pieces
+invariant-loop-read l = (l.present ≡ rows_read l.read l.fn.reader.state) × Carries l.fn.text l.writing l.size l.fn.reader.state l.initial.pieces l.present l.rest l.pieces

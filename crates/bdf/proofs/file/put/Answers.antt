@@ -1,6 +1,6 @@
--- `Pieces::put` meets its contract: each answer is a case of the definition. Assumes nothing.
+-- `put` meets its contract: each answer is a case of the definition. Assumes nothing.
 use Rattle.bdf.proofs.Strips.{from_fits, to_fits, encoded_fits, drawn_fits, drawn_glyph, put_passed, put_boxed, put_encoded, put_drawn}
-use Rattle.bdf.proofs.file.Pieces.put.Goals as goal
+use Rattle.bdf.proofs.file.put.Goals as goal
 
 pub overflow_add-from : goal.overflow_add-from
 overflow_add-from c = search from_fits
