@@ -1,50 +1,33 @@
 -- The lines of a text, found one by one between two line feeds, a line without its return, and a text of one line. Assumes nothing.
-use Prim.Native.Nat.{ℕ, zero, suc, max, ◌+◌, ◌-◌, ◌≤◌, ◌<◌}
+use Prim.Native.Nat.{ℕ, zero, suc, ◌+◌, ◌-◌, ◌≤◌, ◌<◌}
 use native.Mathlib.Omega.{arith}
-use native.Mathlib.Decide.{dec_le}
+use native.Mathlib.Decide.{dec_lt}
 use native.Mathlib.Numerals.{add-one}
 use mathlib.Core.Path.{◌≡◌, refl, sym, ap, ◌∙◌}
 use mathlib.Core.Bool.{Bool, true, false, cond}
 use mathlib.Core.List.{List, [], ◌∷◌, ◌++◌}
 use lib.ListN.{length, take, drop, get_or, drop_of_length-le, length-take, length-drop}
 use lib.Seq.{drop-cons, drop-drop, length-take-le}
-use lib.Dec.{eqb}
-use borrow.Author.Tests.{eq-eqb, ne_eqb}
+use lib.Dec.{eqb, ltb}
+use borrow.Author.Tests.{eq-eqb, ne_eqb, lt-ltb, le-ltb}
+use Rattle.std.specs.Prelude.{Option, Some, None, unwrap_or}
+use Rattle.std.specs.List.{position_or_len}
+use Rattle.std.proofs.lemmas.List.Recursion.{is_position_or_len}
 use Rattle.characters.specs.Lines.{before, lines, without_return, OneLine, line_length, line_from}
 
--- ---- `line_end`: a turn at position i of the text
+-- ---- `line_length`
 
-module _ (text : List ℕ) (i : ℕ) where
-  feed_here : i < length text → get_or text i 0 ≡ 0x0A → line_length (drop i text) ≡ 0
-  unfolding line_length
-  feed_here h e = rw (drop-cons text i 0 h, eq-eqb (get_or text i 0) 0x0A e)
+-- a position found, or else the length, is the first position that passes, or the length
+pub or_length : (n l v : ℕ) (r : Option ℕ) → n ≤ l → r ≡ cond (ltb n l) (Some n) None → v ≡ unwrap_or r l → v ≡ n
+or_length n l v r h e f = elim (dec_lt n l) [
+  | yes k ↦ f ∙ rw (e, lt-ltb n l k)
+  | no k ↦ f ∙ rw (e, le-ltb n l (omega arith)) (omega arith)
+]
 
-  feed-later : i < length text → (get_or text i 0 ≡ 0x0A → ⊥) → line_length (drop i text) ≡ suc (line_length (drop (i + 1) text))
-  unfolding line_length
-  feed-later h e = rw (add-one i, drop-cons text i 0 h, ne_eqb (get_or text i 0) 0x0A e)
-
-  past-text : length text ≤ i → line_length (drop i text) ≡ 0
-  unfolding line_length
-  past-text h = rw (drop_of_length-le text h)
-
-  module _ (end : ℕ) (inv : i + line_length (drop i text) ≡ end) where
-    pub end_here : i < length text → get_or text i 0 ≡ 0x0A → i ≡ end
-    end_here h e = omega (arith, feed_here h e)
-
-    pub end_later : i < length text → (get_or text i 0 ≡ 0x0A → ⊥) → i + 1 + line_length (drop (i + 1) text) ≡ end
-    end_later h e = omega (arith, feed-later h e)
-
-    pub end_past : length text ≤ i → i ≡ end
-    end_past h = omega (arith, past-text h)
-
--- where the turns from a position on meet no feed, the line ends with the text, or is empty past it
-pub end_last : (text : List ℕ) (from i : ℕ) → from ≤ i → (from ≤ length text → i ≤ length text) → length text ≤ i
-    → i + line_length (drop i text) ≡ from + line_length (drop from text) → max from (length text) ≡ from + line_length (drop from text)
-end_last text from i f w h inv =
-    elim (dec_le from (length text)) [
-      | yes l ↦ let e = end_past text i _ inv h in let b = w l in omega arith
-      | no n ↦ omega (arith, past-text text from (omega arith))
-    ]
+-- the first line ends at the first line feed
+pub first_feed : (t : List ℕ) → line_length t ≡ position_or_len (λ b. eqb b 0x0A) t
+unfolding line_length
+first_feed = is_position_or_len line_length (λ b. eqb b 0x0A) refl (λ x xs. let e : suc (line_length xs) ≡ 1 + line_length xs = omega arith in ap (λ (n : ℕ). cond (eqb x 0x0A) 0 n) e)
 
 -- ---- a line, and the lines after it
 

@@ -1,7 +1,7 @@
 -- What tests in a row tell: where the refusal is 0 each test holds, and a refusal that is not 0 is the first. Assumes nothing.
 use Prim.Native.Nat.{ℕ, zero, suc}
 use mathlib.Core.Path.{◌≡◌, refl, sym, ◌∙◌, ap}
-use mathlib.Core.Bool.{Bool, true, false, and-eq-true_iff}
+use mathlib.Core.Bool.{Bool, true, false, cond, and-eq-true_iff}
 use mathlib.Core.List.{List, [], ◌∷◌}
 use native.Mathlib.Omega.{arith}
 use lib.ListN.{get_or}
@@ -48,7 +48,12 @@ module _ (t : Bool) (n rest : ℕ) where
   pub need_passed : (m : ℕ) → t ≡ true → m ≡ rest → m ≡ need t n rest
   need_passed m f e = rw f e
 
-pub ruleset chain = (or_else_handed_on, or_else_passed, need_failed, need_passed)
+-- what `walk` says, in a row of tests
+pub walked : (w : Bool) (d : Refusal) (r : Result Unit Refusal) → r ≡ cond w (Ok tt) (Err d) → refusal_of r ≡ need w (number d) 0
+walked true d r e = ap refusal_of e
+walked false d r e = ap refusal_of e
+
+pub ruleset chain = (or_else_handed_on, or_else_passed, need_failed, need_passed, walked)
 
 -- test number i of a list of tests that all hold
 pub all_true : (l : List Bool) → all l ≡ true → (i : ℕ) → get_or l i true ≡ true

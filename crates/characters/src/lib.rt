@@ -1,15 +1,11 @@
 // RFC 3629: what stands at a cursor of a text, whether a text is well-formed, and its number of characters.
 #![tactic(auto)]
 
-ghost use Rattle.std.specs.Prelude.{◌≡◌, length};
+ghost use Rattle.std.specs.Prelude.{◌≡◌, cond, Ok, Err, length};
 ghost use Rattle.std.specs.Iterator.{YieldsFirst, item_count};
-ghost use Rattle.refusals.specs.Numbers.{number, refusal_of};
-ghost use Rattle.characters.specs.Refusal.{need};
 ghost use Rattle.characters.specs.Utf8.{leading_ones, is_continuation, is_surrogate, scalar, two, three, four, step_at, chars, well_formed};
 ghost use Rattle.characters.specs.Ascii.{ascii_length};
 ghost use Rattle.characters.specs.Characters.{chars_left};
-
-use refusals::Refusal;
 
 pub mod lines;
 pub mod walker;
@@ -148,8 +144,8 @@ fn ascii_length(s: &[u8]) -> usize
 
 // Whether a text is well-formed; the refusal if it is not.
 // A loop, since the iterator's end does not tell the text's end from what is ill-formed.
-pub fn walk(s: &[u8], refusal: Refusal) -> Result<(), Refusal>
-    ensures { refusal_of result ≡ need (well_formed s.now) (number refusal) 0 }
+pub fn walk<E: Copy>(s: &[u8], refusal: E) -> Result<(), E>
+    ensures { result ≡ cond (well_formed s.now) (Ok tt) (Err refusal) }
 {
     let mut c = Cursor {
         at: ascii_length(s),

@@ -1,17 +1,12 @@
-// The lines of a text: where each ends, and its bytes without a return.
-ghost use Rattle.std.specs.Prelude.{◌≡◌, ◌+◌, ◌≤◌, length, drop};
+// The lines of a text: how long the first is, and its bytes without a return.
+ghost use Rattle.std.specs.Prelude.{◌≡◌, ◌≤◌, length};
 ghost use Rattle.characters.specs.Lines.{line_length, without_return};
 
-// Where the line that starts at `from` ends: at a line feed, or with the text.
-pub fn line_end(text: &[u8], from: usize) -> usize
-    ensures { result ≡ from + line_length (drop from text.now) }
+// How many bytes stand before the first line feed, or in the text.
+pub fn line_length(text: &[u8]) -> usize
+    ensures { result ≡ line_length text.now }
 {
-    for i in from..text.len() {
-        if text[i] == 0x0A {
-            return i;
-        }
-    }
-    from.max(text.len())
+    text.iter().position(|b| *b == b'\n').unwrap_or(text.len())
 }
 
 // A line without one trailing return.

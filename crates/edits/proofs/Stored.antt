@@ -1,37 +1,29 @@
 -- What the stores leave: bytes of a number, bytes and then zeros, and a part of the file replaced. Assumes nothing.
-use Prim.Native.Nat.{ℕ, ◌+◌, ◌-◌, ◌/◌, ◌%◌, ◌≤◌}
-use mathlib.Core.Path.{◌≡◌, sym, ◌∙◌, ap}
+use Prim.Native.Nat.{ℕ, ◌+◌, ◌-◌, ◌≤◌}
+use mathlib.Core.Path.{◌≡◌, ◌∙◌, ap}
 use mathlib.Core.Bool.{true}
-use mathlib.Core.List.{List, ◌++◌, append_assoc}
+use mathlib.Core.List.{List, ◌++◌}
 use lib.IntN.{ℤ}
 use lib.ListN.{length, take, drop, replicate, length-take, length-drop}
-use lib.Seq.{sets, sets-eq, length-sets, drop-drop}
+use lib.Seq.{sets, length-sets}
 use native.Mathlib.Omega.{arith}
 use mir.Syntax.{w32}
 use mir.Val.{SFits}
 use mir.Facts.{to_z-of_z}
+use Rattle.geometry.proofs.Stores.{part_stored}
 use Rattle.sheet.specs.Fields.{le16_at, le32_at, le16, item_at}
 use Rattle.sheet.specs.Requires.{EditAllowed, TextFits, StyleFits}
-use Rattle.sheet.specs.Edits.{new_text, new_place, new_style, in_range, put_text, put_place, put_style}
+use Rattle.sheet.specs.Edits.{new_text, new_place, new_style, in_range, put_text}
 use Rattle.sheet.proofs.Bytes.{length_padded}
 use Rattle.sheet.proofs.Allowed.{text_allowed, place_allowed, style_allowed}
 use Rattle.edits.proofs.Signed.{read}
 
 -- ---- a part of the file replaced, the n bytes from a on
 
-mid_sets : (l vs : List ℕ) (a n : ℕ) → a + n ≤ length l → length vs ≡ n → take a l ++ (vs ++ drop (a + n - a) (drop a l)) ≡ sets l a vs
-mid_sets l vs a n h e =
-    let s : a + n - a ≡ length vs = omega arith in
-    rw (s, drop-drop (length vs) a l) (sym (append_assoc (take a l) vs (drop (a + length vs) l)) ∙ sym (sets-eq vs l a (omega arith)))
-
 mid_length : (l : List ℕ) (a n : ℕ) → a + n ≤ length l → length (take (a + n - a) (drop a l)) ≡ n
 mid_length l a n h = simp (length-take, length-drop) (omega arith)
 
 -- the code's stores are the definition's
-pub two_bytes : (s vs : List ℕ) (i n : ℕ) → i + 2 ≤ length s → vs ≡ le16 n → take i s ++ (vs ++ drop (i + 2 - i) (drop i s)) ≡ sets s i (le16 n)
-unfolding le16
-two_bytes s vs i n h e = mid_sets s vs i 2 h (ap length e) ∙ ap (sets s i) e
-
 pub text_stored : (b : List ℕ) (o a n : ℕ) (t s vs : List ℕ) → TextFits b o t → a ≡ le32_at b (o + 4) → n ≡ le16_at b (o + 8) → s ≡ sets b (o + 10) (le16 (length t))
     → vs ≡ t ++ replicate (length (take (a + n - a) (drop a s)) - length t) 0 → take a s ++ (vs ++ drop (a + n - a) (drop a s)) ≡ put_text b o t
 unfolding put_text
@@ -41,21 +33,7 @@ text_stored b o a n t s vs g ea en es ev =
     let r : a + n ≤ length s = omega (arith, g.item_in.slot_in) in
     let v : vs ≡ t ++ replicate (n - length t) 0 = ev ∙ rw (mid_length s a n r) in
     let z : length vs ≡ n = ap length v ∙ length_padded t n (omega arith) in
-    mid_sets s vs a n r z ∙ rw (v, es, ← ea, ← en)
-
-pub style_stored : (b : List ℕ) (o : ℕ) (t vs : List ℕ) → StyleFits b o t → vs ≡ t → take (o + 13) b ++ (vs ++ drop (o + 21 - (o + 13)) (drop (o + 13) b)) ≡ put_style b o t
-unfolding put_style
-style_stored b o t vs g e =
-    let n : o + 21 ≡ o + 13 + 8 = omega arith in
-    rw n (mid_sets b vs (o + 13) 8 (omega (arith, g.record_in)) (ap length e ∙ g.eight) ∙ ap (sets b (o + 13)) e)
-
-low_bytes : (n : ℕ) → le16 (n % 65_536) ≡ le16 n
-unfolding le16
-low_bytes n = let p : n % 65_536 % 256 ≡ n % 256 = omega arith in let q : n % 65_536 / 256 % 256 ≡ n / 256 % 256 = omega arith in rw (p, q)
-
-pub place-stored : (b s r : List ℕ) (o x y : ℕ) → s ≡ sets b o (le16 (x % 65_536)) → r ≡ sets s (o + 2) (le16 (y % 65_536)) → r ≡ put_place b o x y
-unfolding put_place
-place-stored b s r o x y e f = f ∙ rw (e, low_bytes x, low_bytes y)
+    part_stored s vs a n r z ∙ rw (v, es, ← ea, ← en)
 
 -- ---- an edit that is allowed fits
 

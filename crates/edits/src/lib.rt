@@ -9,7 +9,7 @@ ghost use Rattle.sheet.specs.OfItem.{of_item};
 ghost use Rattle.sheet.specs.Requires.{EditAllowed, TextFits, StyleFits};
 ghost use Rattle.sheet.specs.Edits.{in_range, refusal, biased, put_text, put_place, put_style, edited};
 
-use geometry::{ORIGIN, copy_bytes};
+use geometry::{ORIGIN, copy_bytes, store_bytes};
 use limits::good_modes;
 use refusals::Refusal;
 use sheet::Sheet;
@@ -56,14 +56,6 @@ pub fn refusal(sheet: Sheet<'_>, item: u32, edit: Edit<'_>) -> Result<(), Refusa
     }
 }
 
-// Stores the two bytes of a number from `at` on.
-fn store_u16(bytes: &mut [u8], at: usize, n: u16)
-    requires { at + 2 ≤ length bytes.old }
-    ensures { bytes.new ≡ sets bytes.old at (le16 n) }
-{
-    bytes[at..at + 2].copy_from_slice(&n.to_le_bytes());
-}
-
 // Stores bytes, then 0 to the end.
 fn store_padded(to: &mut [u8], from: &[u8])
     requires { length from.now ≤ length to.old }
@@ -74,13 +66,14 @@ fn store_padded(to: &mut [u8], from: &[u8])
 }
 
 // Stores a text and its length in the item whose record stands at `o`, and 00 to the slot's end.
+#[tactic(auto, using(crate::proofs::Stored::text_stored), unfolding(sheet::specs::Fields::le16))]
 fn put_text(sheet: &mut [u8], o: usize, text: &[u8])
     requires { TextFits sheet.old o text.now }
     ensures { sheet.new ≡ put_text sheet.old o text.now }
 {
     let slot = u32_at(&sheet[..], o + 4);
     let end = slot + u16_at(&sheet[..], o + 8);
-    store_u16(sheet, o + 10, text.len() as u16);
+    store_bytes(sheet, o + 10, &(text.len() as u16).to_le_bytes());
     store_padded(&mut sheet[slot..end], text);
 }
 
@@ -92,21 +85,23 @@ pub fn biased(z: i32) -> u32
     (z + ORIGIN as i32) as u32
 }
 
-// Stores a place in the item whose record stands at `o`.
+// Stores a place, the low bytes of its coordinates, in the item whose record stands at `o`.
+#[tactic(auto, unfolding(sheet::specs::Fields::le16, sheet::specs::Edits::put_place))]
 fn put_place(sheet: &mut [u8], o: usize, x: u32, y: u32)
     requires { o + 28 ≤ length sheet.old }
     ensures { sheet.new ≡ put_place sheet.old o x y }
 {
-    store_u16(sheet, o, (x % 65536) as u16);
-    store_u16(sheet, o + 2, (y % 65536) as u16);
+    store_bytes(sheet, o, &x.to_le_bytes()[..2]);
+    store_bytes(sheet, o + 2, &y.to_le_bytes()[..2]);
 }
 
 // Stores a style in the item whose record stands at `o`.
+#[tactic(auto, unfolding(sheet::specs::Edits::put_style))]
 fn put_style(sheet: &mut [u8], o: usize, style: &[u8])
     requires { StyleFits sheet.old o style.now }
     ensures { sheet.new ≡ put_style sheet.old o style.now }
 {
-    copy_bytes(&mut sheet[o + 13..o + 21], style);
+    store_bytes(sheet, o + 13, style);
 }
 
 // Makes an edit of an item.

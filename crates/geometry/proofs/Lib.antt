@@ -6,3 +6,4 @@ pub mod Frames
 pub mod Clips
 pub mod Fills
 pub mod Paintings
+pub mod Stores

@@ -1,5 +1,6 @@
 // Rows of a frame's greys, filled.
-ghost use Rattle.std.specs.Prelude.{◌≡◌, length, replicate, Some};
+ghost use Rattle.std.specs.Prelude.{◌≡◌, ◌+◌, ◌≤◌, length, replicate, Some};
+ghost use Rattle.std.proofs.lemmas.List.Edits.{sets};
 ghost use Rattle.geometry.specs.Layer.{paint, filled};
 ghost use Rattle.geometry.specs.Canvas.{InFrame, on_frame};
 
@@ -22,6 +23,14 @@ pub fn copy_bytes(to: &mut [u8], from: &[u8])
     for i in 0..to.len() {
         to[i] = from[i];
     }
+}
+
+// Stores bytes from an offset on.
+pub fn store_bytes(to: &mut [u8], at: usize, bytes: &[u8])
+    requires { at + length bytes.now ≤ length to.old }
+    ensures { to.new ≡ sets to.old at bytes.now }
+{
+    copy_bytes(&mut to[at..at + bytes.len()], bytes);
 }
 
 // Fills a rectangle of a frame fw wide: rows as wide as the frame are filled as one.

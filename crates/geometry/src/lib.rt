@@ -8,7 +8,7 @@ ghost use Rattle.geometry.specs.Rectangle.{is_empty, envelope, join, intersectio
 ghost use Rattle.geometry.specs.Canvas.{EndsFit, StartsOnFrame, from_corner};
 
 pub use canvas::Frame;
-pub use filling::copy_bytes;
+pub use filling::{copy_bytes, store_bytes};
 
 mod canvas;
 mod filling;

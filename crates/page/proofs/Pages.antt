@@ -1,12 +1,12 @@
 -- Laws of the page writer: digits, the page's length, and bytes stored one run after another. Assumes nothing.
-use Prim.Native.Nat.{ℕ, suc, ◌+◌, ◌-◌, ◌/◌, ◌%◌, ◌≤◌, ◌<◌}
+use Prim.Native.Nat.{ℕ, suc, ◌+◌, ◌/◌, ◌%◌, ◌≤◌, ◌<◌}
 use native.Mathlib.Nat.{add-zero, zero-add, add-suc, suc-add}
 use native.Mathlib.Omega.{arith}
 use native.Mathlib.Decide.{dec_lt}
 use mathlib.Core.Path.{◌≡◌, refl, sym, ap, ◌∙◌}
-use mathlib.Core.List.{List, [], ◌∷◌, ◌++◌, append_assoc}
-use lib.ListN.{length, set, take, drop, length-append}
-use lib.Seq.{sets, sets-eq, drop-drop}
+use mathlib.Core.List.{List, [], ◌∷◌, ◌++◌}
+use lib.ListN.{length, set, drop, length-append}
+use lib.Seq.{sets, sets-eq}
 use borrow.Author.Tests.{lt-ltb, le-ltb}
 use Rattle.page.specs.Page.{digits, page_header}
 use Rattle.page.specs.Room.{HeaderFits, PageFits}
@@ -53,14 +53,6 @@ header_fits w h frame output p = record { width = p.width; height = p.height; ro
 
 pub greys_fit : (w h at : ℕ) (frame output l : List ℕ) → PageFits w h frame output → length l ≡ length output → at ≡ length (page_header w h) → at + length frame ≤ length l
 greys_fit w h at frame output l p e a = omega (arith, length-append (page_header w h) frame)
-
--- ---- bytes stored
-
--- a part put back is a run of stores
-pub part_sets : (l bytes part : List ℕ) (at : ℕ) → at + length bytes ≤ length l → part ≡ bytes → take at l ++ (part ++ drop (at + length bytes - at) (drop at l)) ≡ sets l at bytes
-part_sets l bytes part at h e =
-    let n : at + length bytes - at ≡ length bytes = omega arith in
-    rw (e, n, drop-drop (length bytes) at l, ← append_assoc (take at l) bytes (drop (at + length bytes) l)) (sym (sets-eq bytes l at h))
 
 -- ---- bytes stored one run after another
 

@@ -6,7 +6,7 @@ ghost use Rattle.std.proofs.lemmas.List.Edits.{sets};
 ghost use Rattle.page.specs.Page.{digits, page_header};
 ghost use Rattle.page.specs.Room.{DigitsFit, HeaderFits, PageFits};
 
-use geometry::copy_bytes;
+use geometry::store_bytes;
 
 // How many digits a number below 1,000 has.
 fn digit_count(n: usize) -> usize
@@ -36,9 +36,8 @@ fn write_bytes(output: &mut [u8], at: usize, bytes: &[u8]) -> usize
     ensures output_after { output.new ≡ sets output.old at bytes.now }
     ensures value { result ≡ at + length bytes.now }
 {
-    let end = at + bytes.len();
-    copy_bytes(&mut output[at..end], bytes);
-    end
+    store_bytes(output, at, bytes);
+    at + bytes.len()
 }
 
 // A digit's character.

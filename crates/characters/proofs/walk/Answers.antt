@@ -5,16 +5,16 @@ use Rattle.characters.proofs.Walks.{step-within, step_less, walk_again, walk_sto
 use Rattle.characters.proofs.walk.Goals as goal
 
 pub loop-c-init : goal.loop-c-init
-loop-c-init c = let h = ascii_head _ _ c.ascii_length.ensures in search rules
+loop-c-init g c = let h = ascii_head _ _ c.ascii_length.ensures in search rules
 
 pub returns-in_default : goal.returns-in_default
-returns-in_default c = search (walk_stopped, c.in_default.not-Character)
+returns-in_default g c = search (walk_stopped, c.in_default.not-Character)
 
 pub loop-c-smaller : goal.loop-c-smaller
-loop-c-smaller c = search step_less
+loop-c-smaller g c = search step_less
 
 pub loop-c-preserved : goal.loop-c-preserved
-loop-c-preserved c = (search step-within, search walk_again)
+loop-c-preserved g c = (search step-within, search walk_again)
 
 pub returns : goal.returns
-returns c = search walk_past
+returns g c = search walk_past

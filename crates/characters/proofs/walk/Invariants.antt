@@ -6,7 +6,7 @@ use Rattle.characters.specs.Utf8.{well_formed_from}
 use Rattle.characters.proofs.walk.Given as goal
 
 abbrev pub invariant-loop-c : goal.invariant-loop-c
-invariant-loop-c l = (l.c.at ≤ length l.s) × (well_formed_from l.s l.c.at ≡ well_formed_from l.s 0)
+invariant-loop-c g l = (l.c.at ≤ length l.s) × (well_formed_from l.s l.c.at ≡ well_formed_from l.s 0)
 
 abbrev pub decreases-loop-c : goal.decreases-loop-c
-decreases-loop-c l = length l.s - l.c.at
+decreases-loop-c g l = length l.s - l.c.at
