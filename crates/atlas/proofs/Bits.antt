@@ -1,57 +1,22 @@
 -- Laws of an atlas's bits: where the bytes of a pixel stand, and which bits of them are the next eight pixels. Assumes nothing.
 use Prim.Native.Nat.{ℕ, ◌+◌, ◌-◌, ◌*◌, ◌/◌, ◌%◌, ◌^◌, ◌≤◌, ◌<◌}
-use native.Mathlib.Nat.{add-zero, mul-le-mul_right, div-mul-le_self, add-mul-div_right, add-mul-mod_self_right}
+use native.Mathlib.Nat.{add-mul-div_right, add-mul-mod_self_right}
 use native.Mathlib.Decide.{dec_lt}
 use native.Mathlib.Omega.{arith}
 use mathlib.Core.Path.{◌≡◌, sym, ap, ◌∙◌}
-use mathlib.Core.Bool.{Bool, true, false, cond}
 use mathlib.Core.List.{List}
 use mathlib.Core.Logic.{◌⊎◌, inl, inr, ⊎_elim}
 use lib.ListN.{length, get_or, take, drop}
 use lib.Pow.{pow-add, pow_pos, shr-shr}
 use lib.Arith.{digits_div}
-use lib.Dec.{ltb, eqb}
-use mir.Syntax.{w8, w64}
+use lib.Dec.{eqb}
+use mir.Syntax.{w8}
 use mir.Val.{Fits}
-use borrow.Author.Tests.{lt-ltb, le-ltb}
 use borrow.Rule.Slice.PartMut.{put_mid}
 use Rattle.std.specs.Prelude.{Option}
 use Rattle.geometry.specs.Layer.{map_indexed}
 use Rattle.geometry.proofs.Rows.{FirstPainted, row_start, row_part, row_end}
-use Rattle.atlas.specs.Atlas.{is_on}
-use Rattle.atlas.specs.Row.{blend, image_row, bits_at, bit_row, SubImage}
-
--- the byte of pixel (x, y), and the next byte of its row, lie in the atlas
-module _ (stride x y n : ℕ) (s : SubImage stride x y 1 1 n) (b : n < 2 ^ 64) where
-  room : (x / 8 < stride) × (y * stride + stride ≤ n)
-  room =
-      let m : (y + 1) * stride ≤ n / stride * stride = mul-le-mul_right stride s.foot in
-      omega (arith, s.right, div-mul-le_self n stride)
-
-  pub row_fits : Fits w64 (y * stride)
-  row_fits = omega (arith, room)
-
-  pub byte_fits : Fits w64 (y * stride + x / 8)
-  byte_fits = omega (arith, room)
-
-  pub byte_in : y * stride + x / 8 < n
-  byte_in = omega (arith, room)
-
-  pub next_fits : x / 8 + 1 < stride → Fits w64 (y * stride + x / 8 + 1)
-  next_fits h = omega (arith, room)
-
-  pub next_in : x / 8 + 1 < stride → y * stride + x / 8 + 1 < n
-  next_in h = omega (arith, room)
-
--- `bits_at` from both bytes, or from the last of a row
-module _ (bytes : List ℕ) (stride x y high : ℕ) (e : high ≡ get_or bytes (y * stride + x / 8) 0) where
-  pub two_bytes : (low : ℕ) → low ≡ get_or bytes (y * stride + x / 8 + 1) 0 → x / 8 + 1 < stride → (high * 256 + low) / 2 ^ (8 - x % 8) ≡ bits_at bytes stride x y
-  unfolding bits_at
-  two_bytes low f h = rw (lt-ltb (x / 8 + 1) stride h, e, f)
-
-  pub one_byte : stride ≤ x / 8 + 1 → high * 256 / 2 ^ (8 - x % 8) ≡ bits_at bytes stride x y
-  unfolding bits_at
-  one_byte h = rw (le-ltb (x / 8 + 1) stride h, e, add-zero (get_or bytes (y * stride + x / 8) 0 * 256))
+use Rattle.atlas.specs.Row.{blend, image_row, bits_at, bit_row}
 
 -- the bits of the upper of two bytes, and of the lower
 upper : (high low d : ℕ) → low < 256 → (high * 256 + low) / 2 ^ (8 + d) ≡ high / 2 ^ d
@@ -83,32 +48,20 @@ module _ (high low x : ℕ) (small : low < 256) where
       let p : (8 - x % 8) + (7 - i) ≡ 7 - (x + i) % 8 = omega arith in
       rw (shr-shr (high * 256 + low) (8 - x % 8) (7 - i), p, lower high low (7 - (x + i) % 8) (omega arith))
 
-module _ (bytes : List ℕ) (small : (k : ℕ) → Fits w8 (get_or bytes k 0)) (stride x y : ℕ) where
-  -- the byte after pixel x's in the row, or 0
-  next : ℕ
-  next = cond (ltb (x / 8 + 1) stride) (get_or bytes (y * stride + x / 8 + 1) 0) 0
-
-  next_small : next < 256
-  unfolding next
-  next_small = go (ltb (x / 8 + 1) stride)
-    where
-      go : (t : Bool) → cond t (get_or bytes (y * stride + x / 8 + 1) 0) 0 < 256
-      go true = omega (arith, small (y * stride + x / 8 + 1))
-      go false = omega arith
-
+module _ (line : List ℕ) (small : (k : ℕ) → Fits w8 (get_or line k 0)) (x : ℕ) where
   -- bit 7 - i of the number at pixel x is pixel x + i
-  bit-is-pixel : (i : ℕ) → i < 8 → x + i < 8 * stride → bits_at bytes stride x y / 2 ^ (7 - i) % 2 ≡ get_or bytes (y * stride + (x + i) / 8) 0 / 2 ^ (7 - (x + i) % 8) % 2
-  unfolding bits_at next
-  bit-is-pixel i h r = ⊎_elim
-      (λ (u : x % 8 + i < 8). let q : (x + i) / 8 ≡ x / 8 = omega arith in rw q (upper-bit (get_or bytes (y * stride + x / 8) 0) next x next_small i h u))
+  bit-is-pixel : (i : ℕ) → i < 8 → bits_at line x / 2 ^ (7 - i) % 2 ≡ get_or line ((x + i) / 8) 0 / 2 ^ (7 - (x + i) % 8) % 2
+  unfolding bits_at
+  bit-is-pixel i h = ⊎_elim
+      (λ (u : x % 8 + i < 8). let q : (x + i) / 8 ≡ x / 8 = omega arith in rw q (upper-bit (get_or line (x / 8) 0) (get_or line (x / 8 + 1) 0) x (omega (arith, small (x / 8 + 1))) i h u))
       (λ (u : 8 ≤ x % 8 + i).
-      let q : y * stride + (x + i) / 8 ≡ y * stride + x / 8 + 1 = omega arith in
-      lower-bit (get_or bytes (y * stride + x / 8) 0) next x next_small i h u ∙ rw (q, lt-ltb (x / 8 + 1) stride (omega arith)))
+      let q : (x + i) / 8 ≡ x / 8 + 1 = omega arith in
+      rw q (lower-bit (get_or line (x / 8) 0) (get_or line (x / 8 + 1) 0) x (omega (arith, small (x / 8 + 1))) i h u))
       (lt_or_le (x % 8 + i) 8)
 
-  pub bit_row_lem : (text background : Option ℕ) (i grey : ℕ) → i < 8 → x + i < 8 * stride → bit_row (bits_at bytes stride x y) text background i grey ≡ image_row bytes stride y text background (x + i) grey
-  unfolding bit_row image_row is_on
-  bit_row_lem text background i grey h r = ap (λ (n : ℕ). blend (eqb n 1) text background grey) (bit-is-pixel i h r)
+  pub bit_row_lem : (text background : Option ℕ) (i grey : ℕ) → i < 8 → bit_row (bits_at line x) text background i grey ≡ image_row line text background (x + i) grey
+  unfolding bit_row image_row
+  bit_row_lem text background i grey h = ap (λ (n : ℕ). blend (eqb n 1) text background grey) (bit-is-pixel i h)
 
 -- a row of just k pixels, drawn as a part of itself
 pub whole_part : (k bits : ℕ) (text background : Option ℕ) (xs part : List ℕ) → length xs ≡ k
@@ -120,23 +73,23 @@ whole_part k bits text background xs part n e =
     row_end (bit_row bits text background) 0 k xs _ p (omega (arith, p.size))
 
 -- a loop over a row, drawn in parts from the bits at their first pixel
-module _ (bytes : List ℕ) (stride x y n m bits : ℕ) (text background : Option ℕ) (xs row part : List ℕ) (small : (k : ℕ) → Fits w8 (get_or bytes k 0))
-    (s : SubImage stride x y (length xs) 1 m) (p : FirstPainted (image_row bytes stride y text background) x n xs row) (e : bits ≡ bits_at bytes stride (x + n) y) where
+module _ (line : List ℕ) (x n bits : ℕ) (text background : Option ℕ) (xs row part : List ℕ) (small : (k : ℕ) → Fits w8 (get_or line k 0))
+    (p : FirstPainted (image_row line text background) x n xs row) (e : bits ≡ bits_at line (x + n)) where
   -- the part from n to k
   part_step : (k : ℕ) → n ≤ k → k ≤ n + 8 → k ≤ length xs → part ≡ map_indexed (bit_row bits text background) 0 (take (k - n) (drop n row))
-      → FirstPainted (image_row bytes stride y text background) x k xs (put_mid n (k - n) row part)
+      → FirstPainted (image_row line text background) x k xs (put_mid n (k - n) row part)
   part_step k le near room ep =
-      row_part (image_row bytes stride y text background) (bit_row bits text background) x n k xs row part p le (omega arith) ep
-      (λ i grey h. rw e (bit_row_lem bytes small stride (x + n) y text background i grey (omega arith) (omega (arith, s.right))))
+      row_part (image_row line text background) (bit_row bits text background) x n k xs row part p le (omega arith) ep
+      (λ i grey h. rw e (bit_row_lem line small (x + n) text background i grey (omega arith)))
 
   -- eight pixels
   pub eight_step : 8 ≤ length row - n → part ≡ map_indexed (bit_row bits text background) 0 (take (n + 8 - n) (drop n row))
-      → FirstPainted (image_row bytes stride y text background) x (n + 8) xs (put_mid n (n + 8 - n) row part)
+      → FirstPainted (image_row line text background) x (n + 8) xs (put_mid n (n + 8 - n) row part)
   eight_step h ep = part_step (n + 8) (omega arith) (omega arith) (omega arith) ep
 
   -- the rest, fewer than eight
   pub rest_step : length row - n < 8 → part ≡ map_indexed (bit_row bits text background) 0 (take (length row - n) (drop n row))
-      → put_mid n (length row - n) row part ≡ map_indexed (image_row bytes stride y text background) x xs
+      → put_mid n (length row - n) row part ≡ map_indexed (image_row line text background) x xs
   rest_step h ep =
       let q = part_step (length row) (omega arith) (omega arith) (omega arith) ep in
-      row_end (image_row bytes stride y text background) x (length row) xs _ q (omega (arith, q.size))
+      row_end (image_row line text background) x (length row) xs _ q (omega (arith, q.size))

@@ -1,10 +1,10 @@
 -- A row of an atlas drawn eight pixels at a time, and what drawing part of an atlas requires. Assumes nothing.
 -- Serves contracts: nothing here has to be believed.
-use Rattle.std.specs.Prelude.{Option, Some, None, ℕ, ◌+◌, ◌-◌, ◌*◌, ◌/◌, ◌%◌, ◌^◌, ◌≤◌, ◌<◌, ◌≡◌, Bool, cond, List, get_or, ltb, eqb}
+use Rattle.std.specs.Prelude.{Option, Some, None, ℕ, ◌+◌, ◌-◌, ◌*◌, ◌/◌, ◌%◌, ◌^◌, ◌≤◌, ◌<◌, ◌≡◌, Bool, cond, List, get_or, eqb}
 use Rattle.geometry.specs.Layer.{colored}
 use Rattle.atlas.specs.declared.Atlas.{Atlas}
 use Rattle.atlas.specs.declared.Cells.{Cells}
-use Rattle.atlas.specs.Atlas.{image_height, is_on, glyphs_per_row, is_drawn, glyph_column, glyph_row}
+use Rattle.atlas.specs.Atlas.{image_height, glyphs_per_row, is_drawn, glyph_column, glyph_row}
 
 -- how n bytes hold the glyphs of an atlas
 pub record CellsOf (a : Atlas) (n : ℕ) (c : Cells) : Type 0 where
@@ -19,14 +19,13 @@ glyph_corner a n i = cond (is_drawn a n i) (Some (glyph_column a i, glyph_row a 
 abbrev pub blend : Bool → Option ℕ → Option ℕ → ℕ → ℕ
 blend on text background grey = cond on (colored text grey) (colored background grey)
 
--- row y of the atlas, column by column
-unfoldable pub image_row : List ℕ → ℕ → ℕ → Option ℕ → Option ℕ → ℕ → ℕ → ℕ
-image_row bytes stride y text background x grey = blend (is_on bytes stride x y) text background grey
+-- the pixels of a row of bytes, column by column
+unfoldable pub image_row : List ℕ → Option ℕ → Option ℕ → ℕ → ℕ → ℕ
+image_row line text background x grey = blend (eqb (get_or line (x / 8) 0 / 2 ^ (7 - x % 8) % 2) 1) text background grey
 
--- the byte that holds pixel x of row y and the one after it in the row, shifted so that bit 7 is pixel x
-unfoldable pub bits_at : List ℕ → ℕ → ℕ → ℕ → ℕ
-bits_at bytes stride x y =
-    (get_or bytes (y * stride + x / 8) 0 * 256 + cond (ltb (x / 8 + 1) stride) (get_or bytes (y * stride + x / 8 + 1) 0) 0) / 2 ^ (8 - x % 8)
+-- the byte that holds pixel x of a row and the one after it, or 0, shifted so that bit 7 is pixel x
+unfoldable pub bits_at : List ℕ → ℕ → ℕ
+bits_at line x = (get_or line (x / 8) 0 * 256 + get_or line (x / 8 + 1) 0) / 2 ^ (8 - x % 8)
 
 -- eight pixels, from bit 7 on
 unfoldable pub bit_row : ℕ → Option ℕ → Option ℕ → ℕ → ℕ → ℕ

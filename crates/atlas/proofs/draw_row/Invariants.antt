@@ -6,7 +6,7 @@ use Rattle.atlas.specs.Row.{image_row}
 use Rattle.atlas.proofs.draw_row.Given as goal
 
 abbrev pub invariant-loop-row : goal.invariant-loop-row
-invariant-loop-row l = FirstPainted (image_row l.bytes l.stride l.y l.text l.background) l.x l.i l.initial.row l.row
+invariant-loop-row l = FirstPainted (image_row l.line l.text l.background) l.x l.i l.initial.row l.row
 
 abbrev pub decreases-loop-row : goal.decreases-loop-row
 decreases-loop-row l = length l.initial.row - l.i

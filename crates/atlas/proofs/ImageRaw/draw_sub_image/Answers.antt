@@ -3,7 +3,7 @@
 use mathlib.Core.Path.{refl}
 use Rattle.geometry.proofs.Clips.{shown_starts, shown_past_left, shown_past_top}
 use Rattle.geometry.proofs.Frames.{row_fits, row_start_fits, row_end_fits, row_end_in}
-use Rattle.atlas.proofs.Images.{sub_image_row, image-start, image-step}
+use Rattle.atlas.proofs.Images.{image-start, image-step}
 use Rattle.atlas.proofs.Shown.{shown_column_fits, shown_row_fits, shown_sub_image, shown_in_frame, row_shown, row_shown_fits, image_shown}
 use Rattle.atlas.proofs.ImageRaw.draw_sub_image.Goals as goal
 
@@ -36,9 +36,6 @@ overflow_add-b c = search row_end_fits
 
 pub slice_bounds-draw_row-end : goal.slice_bounds-draw_row-end
 slice_bounds-draw_row-end c = search row_end_in
-
-pub draw_row-requires : goal.draw_row-requires
-draw_row-requires c = search sub_image_row
 
 pub loop-k-preserved : goal.loop-k-preserved
 loop-k-preserved c = search image-step
