@@ -32,7 +32,7 @@ pub struct GlyphColors {
 }
 
 // An atlas with its bytes, and how they hold its glyphs: embedded-graphics' `ImageRaw` of one bit a pixel.
-#[derive(Clone, Copy)]
+#[derive(Clone, Copy, Debug, PartialEq, Eq)]
 pub struct ImageRaw<'a> {
     pub bytes: &'a [u8],
     pub atlas: Atlas,

@@ -25,8 +25,9 @@ pub enum Step {
     End,
 }
 
-// The characters of a text from a position on, up to its end or to what is ill-formed.
-#[derive(Clone, Copy)]
+// The characters of a text from a position on, up to its end or to what is ill-formed. The text and a cursor, and no rest of it: a step gives
+// the cursor after a character.
+#[derive(Clone, Copy, Debug, PartialEq, Eq)]
 pub struct Characters<'a> {
     text: &'a [u8],
     cursor: Cursor,

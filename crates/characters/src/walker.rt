@@ -5,8 +5,8 @@ ghost use Rattle.characters.specs.Walker.{moved_to};
 
 use super::{Cursor, Step};
 
-// The line's bytes and the offset of the next character.
-#[derive(Clone, Copy)]
+// The line's bytes and the offset of the next character: a host keeps both, which docs/DECISIONS.md, "Forms that were asked for", names.
+#[derive(Clone, Copy, Debug, PartialEq, Eq)]
 pub struct Walker<'a> {
     pub line: &'a [u8],
     pub at: usize,

@@ -30,7 +30,7 @@ pub fn page_length(frame: &[u8], w: usize, h: usize) -> usize
     9 + width + height + frame.len()
 }
 
-// Stores the bytes from an offset on, and gives the offset after them.
+// Stores the bytes from an offset on, and gives the offset after them. The offset, and no rest of the output: the last one is the page's length.
 fn write_bytes(output: &mut [u8], at: usize, bytes: &[u8]) -> usize
     requires { at + length bytes.now ≤ length output.old }
     ensures output_after { output.new ≡ sets output.old at bytes.now }
