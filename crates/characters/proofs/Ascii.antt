@@ -1,20 +1,34 @@
 -- The leading bytes below 80 are a character each, and the rest tells the rest. Assumes nothing.
-use mathlib.Core.Path.{◌≡◌, refl}
-use mathlib.Core.List.{List}
-use Prim.Native.Nat.{ℕ, zero, suc, ◌+◌, ◌<◌, ◌≤◌}
+use mathlib.Core.Path.{◌≡◌, refl, ◌∙◌}
+use mathlib.Core.Bool.{Bool, true, false, cond, not}
+use mathlib.Core.List.{List, [], ◌∷◌}
+use Prim.Native.Nat.{ℕ, zero, suc, ◌+◌, ◌-◌, ◌*◌, ◌/◌, ◌<◌, ◌≤◌}
 use native.Mathlib.Numerals.{add-one}
 use native.Mathlib.Omega.{arith}
 use native.Mathlib.Decide.{dec_lt}
-use lib.ListN.{length, get_or, drop, drop_of_length-le}
-use lib.Seq.{drop-cons}
+use lib.Dec.{ltb}
+use lib.ListN.{length, get_or, take, drop, drop_of_length-le, length-drop}
+use lib.Seq.{drop-cons, drop-drop, length-take-le}
+use Rattle.std.specs.List.{position_or_len}
+use Rattle.std.proofs.lemmas.List.Recursion.{is_position_or_len}
 use borrow.Author.Tests.{lt-ltb, le-ltb}
 use Rattle.characters.specs.declared.Step.TheVariants.{Character}
 use Rattle.characters.specs.Utf8.{leading_ones, sequence, step_at, chars_from, well_formed_from}
 use Rattle.characters.specs.Ascii.{ascii_length}
 use Rattle.characters.proofs.Walks.{walk_again, count_again}
 
--- ---- the number of leading bytes, byte by byte: n are passed at the position `at`
+-- ---- the number of leading bytes
 
+turned : (t : Bool) (n : ℕ) → cond t (suc n) 0 ≡ cond (not t) 0 (1 + n)
+turned true n = omega arith
+turned false n = refl
+
+-- byte by byte: the position of the first that is not below 80
+pub first_above : (s : List ℕ) → ascii_length s ≡ position_or_len (λ b. not (ltb b 0x80)) s
+unfolding ascii_length
+first_above = is_position_or_len ascii_length (λ b. not (ltb b 0x80)) refl (λ b s. turned (ltb b 0x80) (ascii_length s))
+
+-- in blocks: of bytes that are all below 80 the rest tells the rest
 module _ (s : List ℕ) (at : ℕ) where
   below-passed : at < length s → get_or s at 0 < 0x80 → ascii_length (drop at s) ≡ suc (ascii_length (drop (at + 1) s))
   unfolding ascii_length
@@ -28,17 +42,34 @@ module _ (s : List ℕ) (at : ℕ) where
   unfolding ascii_length
   past-stops h = rw (drop_of_length-le s {i = at} h)
 
-  pub ascii_more : at + ascii_length (drop at s) ≡ ascii_length s → at < length s → get_or s at 0 < 0x80 → at + 1 + ascii_length (drop (at + 1) s) ≡ ascii_length s
-  ascii_more i h l = omega (arith, below-passed h l)
+pub all_below : (s : List ℕ) → ((k : ℕ) → k < length s → get_or s k 0 < 0x80) → ascii_length s ≡ length s
+unfolding ascii_length
+all_below [] h = refl
+all_below (b ∷ s) h = rw (lt-ltb b 0x80 (h 0 (omega arith)), all_below s (λ k l. h (suc k) (omega arith)))
 
-  pub ascii_above : at + ascii_length (drop at s) ≡ ascii_length s → at < length s → 0x80 ≤ get_or s at 0 → at ≡ ascii_length s
-  ascii_above i h l = omega (arith, above-stops h l)
+head-below : (n : ℕ) (s : List ℕ) → n ≤ length s → ascii_length (take n s) ≡ n → ascii_length s ≡ n + ascii_length (drop n s)
+unfolding ascii_length
+head-below zero s h e = omega arith
+head-below (suc n) [] h e = absurd (omega arith)
+head-below (suc n) (b ∷ s) h e = go (ltb b 0x80) e (head-below n s (omega arith))
+  where
+    go : (t : Bool) → cond t (suc (ascii_length (take n s))) 0 ≡ suc n → (ascii_length (take n s) ≡ n → ascii_length s ≡ n + ascii_length (drop n s))
+        → cond t (suc (ascii_length s)) 0 ≡ suc n + ascii_length (drop n s)
+    go true e f = omega (arith, f (omega arith))
+    go false e f = absurd (omega arith)
 
-  pub ascii_past : at + ascii_length (drop at s) ≡ ascii_length s → length s ≤ at → at ≡ ascii_length s
-  ascii_past i h = omega (arith, past-stops h)
-
-pub ascii_start : (s : List ℕ) → 0 + ascii_length (drop 0 s) ≡ ascii_length s
-ascii_start s = omega arith
+-- a block more
+pub block_below : (s : List ℕ) (k : ℕ) → k < length s / 16 → 16 * k + ascii_length (drop (16 * k) s) ≡ ascii_length s
+    → ascii_length (take (16 * k + 16 - 16 * k) (drop (16 * k) s)) ≡ length (take (16 * k + 16 - 16 * k) (drop (16 * k) s))
+    → 16 * (k + 1) + ascii_length (drop (16 * (k + 1)) s) ≡ ascii_length s
+block_below s k h i e =
+    let sixteen : 16 * k + 16 - 16 * k ≡ 16 = omega arith in
+    let l : length (drop (16 * k) s) ≡ length s - 16 * k = length-drop (16 * k) s in
+    let n : length (take 16 (drop (16 * k) s)) ≡ 16 = length-take-le 16 (drop (16 * k) s) (omega arith) in
+    let b = head-below 16 (drop (16 * k) s) (omega arith) (rw sixteen at e ∙ n) in
+    let m : 16 * (k + 1) ≡ 16 * k + 16 = omega arith in
+    let d : drop 16 (drop (16 * k) s) ≡ drop (16 * k + 16) s = drop-drop 16 (16 * k) s in
+    rw (m, ← d) (omega (arith, b))
 
 -- ---- what they tell of the text
 

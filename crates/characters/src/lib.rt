@@ -1,7 +1,7 @@
 // RFC 3629: what stands at a cursor of a text, whether a text is well-formed, and its number of characters.
 #![tactic(auto)]
 
-ghost use Rattle.std.specs.Prelude.{◌≡◌, cond, Ok, Err, length};
+ghost use Rattle.std.specs.Prelude.{◌≡◌, ◌≤◌, true, cond, Ok, Err, length};
 ghost use Rattle.std.specs.Iterator.{YieldsFirst, item_count};
 ghost use Rattle.characters.specs.Utf8.{leading_ones, is_continuation, is_surrogate, scalar, two, three, four, step_at, chars, well_formed};
 ghost use Rattle.characters.specs.Ascii.{ascii_length};
@@ -131,16 +131,38 @@ pub fn next(s: &[u8], c: Cursor) -> Step
     Step::IllFormed
 }
 
-// How many bytes below 80 lead the text: each is a character.
+// Whether all bytes are below 80; all are looked at, so that sixteen are compared at once.
+fn is_ascii(block: &[u8]) -> bool
+    ensures { result ≡ true → ascii_length block.now ≡ length block.now }
+{
+    let mut most: u8 = 0;
+    for &b in block {
+        most = most.max(b);
+    }
+    most < 0x80
+}
+
+// How many bytes below 80 lead the text, byte by byte.
+fn ascii_bytes(s: &[u8]) -> usize
+    ensures value { result ≡ ascii_length s.now }
+    ensures within { result ≤ length s.now }
+{
+    s.iter().position(|b| 0x80 <= *b).unwrap_or(s.len())
+}
+
+// How many bytes below 80 lead the text: each is a character. They are passed over sixteen at a time, as long as all sixteen are below.
 fn ascii_length(s: &[u8]) -> usize
     ensures { result ≡ ascii_length s.now }
 {
-    for at in 0..s.len() {
-        if 0x80 <= s[at] {
-            return at;
+    let blocks = s.len() / 16;
+    for k in 0..blocks {
+        let at = 16 * k;
+        if !is_ascii(&s[at..at + 16]) {
+            return at + ascii_bytes(&s[at..]);
         }
     }
-    s.len()
+    let at = 16 * blocks;
+    at + ascii_bytes(&s[at..])
 }
 
 // Whether a text is well-formed; the refusal if it is not.

@@ -1,17 +1,6 @@
--- The invariant: the bytes passed are below 80, and the bytes below 80 that lead the rest make up the whole. Assumes nothing.
-use borrow.Author.Rules.{rules}
-use native.Mathlib.Omega.{arith}
-use Rattle.characters.proofs.Ascii.{ascii_start, ascii_more, ascii_above, ascii_past}
+-- The bytes of the blocks passed are below 80, and what leads the rest makes up the whole. Assumes nothing.
+use Rattle.characters.proofs.Ascii.{block_below}
 use Rattle.characters.proofs.ascii_length.Goals as goal
 
-pub loop-at-init : goal.loop-at-init
-loop-at-init c = (search rules, search ascii_start)
-
-pub returns-then-s-at-ge128 : goal.returns-then-s-at-ge128
-returns-then-s-at-ge128 c = search ascii_above
-
-pub loop-at-preserved : goal.loop-at-preserved
-loop-at-preserved c = (search rules, search ascii_more)
-
-pub returns : goal.returns
-returns c = let e = ascii_past c.args.s.now c.loop-at.at c.loop-at.invariant.1 c.loop-at-test.false in omega arith
+pub loop-k-preserved : goal.loop-k-preserved
+loop-k-preserved c = search (block_below, c.is_ascii.ensures)

@@ -1,9 +1,9 @@
--- The invariant: the bytes passed are below 80, and the bytes below 80 that lead the rest make up the whole. Assumes nothing.
+-- The bytes of the blocks passed are below 80, and what leads the rest makes up the whole. Assumes nothing.
 use mathlib.Core.Path.{◌≡◌}
-use Prim.Native.Nat.{◌+◌, ◌≤◌}
-use lib.ListN.{length, drop}
+use Prim.Native.Nat.{◌+◌, ◌*◌}
+use lib.ListN.{drop}
 use Rattle.characters.specs.Ascii.{ascii_length}
 use Rattle.characters.proofs.ascii_length.Given as goal
 
-abbrev pub invariant-loop-at : goal.invariant-loop-at
-invariant-loop-at l = (l.at ≤ length l.s) × (l.at + ascii_length (drop l.at l.s) ≡ ascii_length l.s)
+abbrev pub invariant-loop-k : goal.invariant-loop-k
+invariant-loop-k l = 16 * l.k + ascii_length (drop (16 * l.k) l.s) ≡ ascii_length l.s
