@@ -3,7 +3,7 @@
 use Prim.Native.Nat.{ℕ, ◌+◌, ◌-◌, ◌*◌, ◌≤◌}
 use native.Mathlib.Omega.{arith}
 use mathlib.Core.Path.{◌≡◌, refl, sym, ap, ◌∙◌}
-use Rattle.std.specs.Prelude.{Option, unwrap_or}
+use Rattle.std.specs.Prelude.{Option, Some, None}
 use Rattle.std.specs.Bool.{then_some}
 use Rattle.std.specs.Int.{from_bool}
 use mathlib.Core.Bool.{Bool, true, false, not, cond, ◌||◌, or-true, true≢false}
@@ -39,9 +39,9 @@ counted_few true n = omega arith
 counted_few false n = omega arith
 
 -- what is told where it is asked for is told
-pub counted_if : (counts : Bool) (m n r : ℕ) (told : Option ℕ) → (counts ≡ true → m ≡ n) → told ≡ then_some counts m → r ≡ unwrap_or told 0 → r ≡ cond counts n 0
-counted_if true m n r told h t e = e ∙ rw t (h refl)
-counted_if false m n r told h t e = e ∙ rw t
+counted_if : (counts : Bool) (m n : ℕ) (told : Option ℕ) → (counts ≡ true → m ≡ n) → told ≡ then_some counts m → told ≡ cond counts (Some n) None
+counted_if true m n told h t = t ∙ ap Some (h refl)
+counted_if false m n told h t = t
 
 -- those of two lists together
 pub unlisted-append : (mapping chs more : List ℕ) → unlisted mapping (chs ++ more) ≡ unlisted mapping chs + unlisted mapping more
@@ -81,9 +81,9 @@ beside_disjoint clip c x width k h = by (ltb (x + width) c.first) (leb c.end x) 
 
 -- ---- a character that is looked up
 
-pub met_beside : (c : Columns) (mapping : List ℕ) (width ch x n : ℕ) (t : Bool) → t ≡ is_beside c x width → t ≡ true → n ≡ n + met_character c mapping width ch x
+pub met_beside : (c : Columns) (mapping : List ℕ) (width ch x : ℕ) (t : Bool) → t ≡ is_beside c x width → t ≡ true → 0 ≡ met_character c mapping width ch x
 unfolding met_character
-met_beside c mapping width ch x n t e h = rw (← e, h) (omega arith)
+met_beside c mapping width ch x t e h = rw (← e, h)
 
 pub met_small : (c : Columns) (mapping : List ℕ) (width ch x : ℕ) → met_character c mapping width ch x ≤ 1
 unfolding met_character
@@ -95,11 +95,11 @@ met_small c mapping width ch x = by (is_beside c x width) (contains mapping ch)
     by false false = omega arith
 
 -- and counted, if it is not listed
-pub count_met : (c : Columns) (mapping : List ℕ) (width replacement ch x n more : ℕ) (g : Glyph) (t : Bool) → t ≡ is_beside c x width → t ≡ false → g ≡ glyph mapping replacement ch
-    → more ≡ from_bool (not g.listed) → n + more ≡ n + met_character c mapping width ch x
+pub count_met : (c : Columns) (mapping : List ℕ) (width replacement ch x n : ℕ) (g : Glyph) (t : Bool) → t ≡ is_beside c x width → t ≡ false → g ≡ glyph mapping replacement ch
+    → n ≡ from_bool (not g.listed) → n ≡ met_character c mapping width ch x
 unfolding met_character
-count_met c mapping width replacement ch x n more g t e h eg em =
-    ap (λ (k : ℕ). n + k) (em ∙ by g.listed ∙ rw (eg, ← e, h))
+count_met c mapping width replacement ch x n g t e h eg em =
+    em ∙ by g.listed ∙ rw (eg, ← e, h)
   where
     by : (u : Bool) → from_bool (not u) ≡ cond u 0 1
     by true = refl
@@ -132,10 +132,11 @@ module _ (clip : Rectangle) (m : MonoFont) (limits : FontLimits m) (mapping : Li
   met_all gap (ch ∷ chs) x small near =
       rw (all-met (gap + character_width m) ch x (omega arith), met_all (spacing m) chs (x + gap + character_width m) limits.spacing_small (omega (arith, limits)))
 
-  pub met_counted : (text : List ℕ) (x r : ℕ) (counts : Bool) → length text ≤ 65_536 → x ≤ 8_388_608 → r ≡ met_unlisted (columns_of clip counts) m mapping 0 (chars text) x
-      → counts ≡ true → r ≡ unlisted mapping (chars text)
-  met_counted text x r counts short near e h = (rw h at e) ∙ met_all 0 (chars text) x (omega arith) (omega (arith, length-chars text))
+  pub met_counted : (text : List ℕ) (x r : ℕ) (counts : Bool) (told : Option ℕ) → length text ≤ 65_536 → x ≤ 8_388_608
+      → r ≡ met_unlisted (columns_of clip counts) m mapping 0 (chars text) x → told ≡ then_some counts r → told ≡ cond counts (Some (unlisted mapping (chars text))) None
+  met_counted text x r counts told short near e =
+      counted_if counts r _ told (λ h. (rw h at e) ∙ met_all 0 (chars text) x (omega arith) (omega (arith, length-chars text)))
 
 -- where they are neither shown nor counted, none is asked for
-pub unasked : (shows counts : Bool) (n : ℕ) → (shows || counts) ≡ false → counts ≡ true → 0 ≡ n
-unasked shows counts n h c = absurd (true≢false (sym c ∙ ((or-eq-false-eq-eq-false-and-eq-false shows counts).0 h).1))
+pub unasked : (shows counts : Bool) (n : ℕ) → (shows || counts) ≡ false → None ≡ cond counts (Some n) None
+unasked shows counts n h = rw ((or-eq-false-eq-eq-false-and-eq-false shows counts).0 h).1

@@ -1,23 +1,22 @@
-// A font as it is lent: its numbers within their limits, and the bytes of its atlas and of its mapping.
-ghost use Rattle.mapping.specs.Entries.{WithinLimit};
+// A font as it is lent: its numbers within their limits, the bytes of its atlas, and its mapping.
 ghost use Rattle.line.specs.Limits.{FontLimits};
 
 use super::MonoFont;
+use mapping::Mapping;
 
 // The numbers of a font, within the limits of docs/SHEET.md, Sheet.
-#[derive(Clone, Copy)]
+#[derive(Clone, Copy, Debug, PartialEq, Eq)]
 pub struct Metrics {
     pub font: MonoFont,
     ghost limits: { FontLimits font },
 }
 
-// A font: its numbers, and the bytes of its atlas and of its mapping, which are lent.
-#[derive(Clone, Copy)]
+// A font: its numbers, the bytes of its atlas, which are lent, and its mapping.
+#[derive(Clone, Copy, Debug, PartialEq, Eq)]
 pub struct Font<'a> {
     pub metrics: Metrics,
     pub atlas: &'a [u8],
-    pub mapping: &'a [u8],
-    ghost within_limit: { WithinLimit mapping.now },
+    pub mapping: Mapping<'a>,
 }
 
 impl Metrics {
@@ -35,15 +34,13 @@ impl Metrics {
 
 impl<'a> Font<'a> {
     ghost use Rattle.std.specs.Prelude.{◌≡◌};
-    ghost use Rattle.mapping.specs.Entries.{WithinLimit};
     ghost use Rattle.line.specs.Line.{font_of};
     ghost use Rattle.line.specs.Lent.{lent};
 
     // The font of these numbers, this atlas and this mapping.
-    pub fn new(metrics: Metrics, atlas: &'a [u8], mapping: &'a [u8]) -> Font<'a>
-        requires { WithinLimit mapping.now }
+    pub fn new(metrics: Metrics, atlas: &'a [u8], mapping: Mapping<'a>) -> Font<'a>
         ensures metrics_value { result.metrics ≡ metrics }
-        ensures value { lent result ≡ font_of metrics.font atlas.now mapping.now }
+        ensures value { lent result ≡ font_of metrics.font atlas.now mapping.entry.bytes.now }
     {
         Font {
             metrics,

@@ -1,7 +1,7 @@
 // One line of text: its colours, its decorations and its drawing.
 #![tactic(auto)]
 
-ghost use Rattle.std.specs.Prelude.{◌≡◌, true, cond, ◌+◌, ◌^◌, ◌<◌, ◌≤◌, length};
+ghost use Rattle.std.specs.Prelude.{◌≡◌, cond, ◌+◌, ◌^◌, ◌<◌, ◌≤◌, length};
 ghost use Rattle.geometry.specs.Painted.{Painted};
 ghost use Rattle.characters.specs.Utf8.{chars};
 ghost use Rattle.mapping.specs.Mapping.{contains};
@@ -63,7 +63,7 @@ pub enum Baseline {
 }
 
 // A line of text with what it is drawn in: its font and its colours; and whether the characters that its font does not list are counted.
-#[derive(Clone, Copy)]
+#[derive(Clone, Copy, Debug, PartialEq, Eq)]
 pub struct Line<'a> {
     pub text: &'a [u8],
     pub font: Font<'a>,
@@ -71,11 +71,18 @@ pub struct Line<'a> {
     pub counts: bool,
 }
 
-// What drawing a line gives: the next x, and a count of characters that the font's mapping does not list.
+// What drawing a line gives: the next x, and how many characters the font's mapping does not list, if they are counted.
 #[derive(Clone, Copy, PartialEq, Eq, Debug)]
 pub struct DrawnLine {
     pub next: u32,
-    pub replaced: u32,
+    pub replaced: Option<u32>,
+}
+
+// What drawing the glyphs of a line gives: where they end, and how many characters that were looked up are not listed.
+#[derive(Clone, Copy, PartialEq, Eq, Debug)]
+struct DrawnGlyphs {
+    end: u32,
+    replaced: u32,
 }
 
 // Columns of the target: a character that ends before `first`, or starts at `end` or after it, stands beside them.
@@ -202,20 +209,20 @@ impl Metrics {
 
 impl<'a> PreparedLine<'a> {
     // Draws a gap from `corner` on in the background's grey and the glyph of a character after it, unless they stand beside the columns; gives
-    // the count, with the character if it was looked up and is not listed.
-    fn draw_character(&self, frame: &mut Frame, corner: Point, gap: u32, ch: u32, count: u32) -> u32
+    // 1 if the character was looked up and is not listed, else 0.
+    fn draw_character(&self, frame: &mut Frame, corner: Point, gap: u32, ch: u32) -> u32
         requires prepared_for { PreparedFor frame.old.target.clip_area self.now }
-        requires character_limits { CharacterLimits gap corner.x count }
+        requires character_limits { CharacterLimits gap corner.x }
         ensures painted { Painted frame.old (character (lent self.now.line.font) self.now.line.style gap (glyph_index (lent self.now.line.font) ch) corner.x corner.y) frame.new }
-        ensures value { result ≡ count + met_character self.now.columns self.now.line.font.mapping.now (gap + character_width self.now.line.font.metrics.font) ch corner.x }
+        ensures value { result ≡ met_character self.now.columns self.now.line.font.mapping.bytes.now (gap + character_width self.now.line.font.metrics.font) ch corner.x }
     {
         let font = self.line.font.metrics.font;
         let width = gap + font.atlas.cell_size.width;
         if self.columns.is_beside(corner.x, width) {
-            return count;
+            return 0;
         }
         let mapping = self.line.font.mapping;
-        let glyph = mapping::glyph_with(mapping, self.start, font.replacement_index, ch);
+        let glyph = mapping.glyph_with(self.start, font.replacement_index, ch);
         let style = self.line.style;
         let area = Rectangle {
             left: corner.x,
@@ -233,17 +240,16 @@ impl<'a> PreparedLine<'a> {
             y: corner.y,
         };
         self.image.draw_glyph(frame, colors, glyph.index, at);
-        count + u32::from(!glyph.listed)
+        u32::from(!glyph.listed)
     }
 
-    // Draws the glyphs of the line from `corner` on, and the gaps between them; gives where they end, and how many characters that were
-    // looked up are not listed.
-    fn draw_glyphs(&self, frame: &mut Frame, corner: Point) -> DrawnLine
+    // Draws the glyphs of the line from `corner` on, and the gaps between them.
+    fn draw_glyphs(&self, frame: &mut Frame, corner: Point) -> DrawnGlyphs
         requires prepared_for { PreparedFor frame.old.target.clip_area self.now }
         requires place_limits { PlaceLimits (length self.now.line.text.now) corner.x corner.y }
         ensures painted { Painted frame.old (line_glyphs (lent self.now.line.font) self.now.line.style self.now.line.text.now corner.x corner.y) frame.new }
-        ensures next_value { result.next ≡ corner.x + spaced self.now.line.font.metrics.font (length (chars self.now.line.text.now)) }
-        ensures replaced_value { result.replaced ≡ met_unlisted self.now.columns self.now.line.font.metrics.font self.now.line.font.mapping.now 0 (chars self.now.line.text.now) corner.x }
+        ensures end_value { result.end ≡ corner.x + spaced self.now.line.font.metrics.font (length (chars self.now.line.text.now)) }
+        ensures replaced_value { result.replaced ≡ met_unlisted self.now.columns self.now.line.font.metrics.font self.now.line.font.mapping.bytes.now 0 (chars self.now.line.text.now) corner.x }
     {
         let font = self.line.font.metrics.font;
         let width = font.atlas.cell_size.width;
@@ -253,11 +259,11 @@ impl<'a> PreparedLine<'a> {
         let mut replaced: u32 = 0;
         for ch in characters::chars(self.line.text) {
             let at = Point { x, y: corner.y };
-            replaced = self.draw_character(frame, at, gap, ch, replaced);
+            replaced += self.draw_character(frame, at, gap, ch);
             x = x + gap + width;
             gap = spacing;
         }
-        DrawnLine { next: x, replaced }
+        DrawnGlyphs { end: x, replaced }
     }
 }
 
@@ -272,17 +278,17 @@ impl<'a> Line<'a> {
     }
 
     // Draws the characters of the line; gives where they end, and the count of those in the clip's columns, or of all if they are counted.
-    fn draw_all_characters(&self, frame: &mut Frame, corner: Point) -> DrawnLine
+    fn draw_all_characters(&self, frame: &mut Frame, corner: Point) -> DrawnGlyphs
         requires { PlaceLimits (length self.now.text.now) corner.x corner.y }
         ensures painted { Painted frame.old (line_glyphs (lent self.now.font) self.now.style self.now.text.now corner.x corner.y) frame.new }
-        ensures next_value { result.next ≡ corner.x + spaced self.now.font.metrics.font (length (chars self.now.text.now)) }
-        ensures replaced_value { result.replaced ≡ met_unlisted (columns_of frame.old.target.clip_area self.now.counts) self.now.font.metrics.font self.now.font.mapping.now 0 (chars self.now.text.now) corner.x }
+        ensures end_value { result.end ≡ corner.x + spaced self.now.font.metrics.font (length (chars self.now.text.now)) }
+        ensures replaced_value { result.replaced ≡ met_unlisted (columns_of frame.old.target.clip_area self.now.counts) self.now.font.metrics.font self.now.font.mapping.bytes.now 0 (chars self.now.text.now) corner.x }
     {
         let font = self.font;
         let prepared = PreparedLine {
             line: *self,
             image: ImageRaw::new(font.atlas, font.metrics.font.atlas),
-            start: mapping::start_of(font.mapping, self.text),
+            start: font.mapping.start_of(self.text),
             columns: Columns::of_clip(frame.target.clip_area, self.counts),
         };
         prepared.draw_glyphs(frame, corner)
@@ -293,7 +299,7 @@ impl<'a> Line<'a> {
         requires { PlaceLimits (length self.now.text.now) corner.x corner.y }
         ensures painted { Painted frame.old (line_glyphs (lent self.now.font) self.now.style self.now.text.now corner.x corner.y) frame.new }
         ensures next_value { result.next ≡ corner.x + advance self.now.font.metrics.font self.now.style (length (chars self.now.text.now)) }
-        ensures replaced_value { self.now.counts ≡ true → result.replaced ≡ unlisted self.now.font.mapping.now (chars self.now.text.now) }
+        ensures replaced_value { result.replaced ≡ cond self.now.counts (Some (unlisted self.now.font.mapping.bytes.now (chars self.now.text.now))) None }
     {
         let shown = self
             .font
@@ -301,14 +307,20 @@ impl<'a> Line<'a> {
             .shows_glyphs(frame.target.clip_area, self.style, corner.y);
         if !(shown | self.counts) {
             let next = self.next_x(corner.x);
-            return DrawnLine { next, replaced: 0 };
+            return DrawnLine {
+                next,
+                replaced: None,
+            };
         }
         let drawn = self.draw_all_characters(frame, corner);
+        let replaced = self.counts.then_some(drawn.replaced);
         if shown {
-            return drawn;
+            return DrawnLine {
+                next: drawn.end,
+                replaced,
+            };
         }
         let next = self.next_x(corner.x);
-        let replaced = drawn.replaced;
         DrawnLine { next, replaced }
     }
 
@@ -317,17 +329,13 @@ impl<'a> Line<'a> {
         requires { PlaceLimits (length self.now.text.now) corner.x corner.y }
         ensures painted { Painted frame.old (string (lent self.now.font) self.now.style self.now.text.now corner.x corner.y) frame.new }
         ensures next_value { result.next ≡ corner.x + advance self.now.font.metrics.font self.now.style (length (chars self.now.text.now)) }
-        ensures replaced_value { result.replaced ≡ cond self.now.counts (unlisted self.now.font.mapping.now (chars self.now.text.now)) 0 }
+        ensures replaced_value { result.replaced ≡ cond self.now.counts (Some (unlisted self.now.font.mapping.bytes.now (chars self.now.text.now))) None }
     {
         let drawn = self.draw_characters(frame, corner);
         let width = drawn.next - corner.x;
         self.font
             .metrics
             .draw_decorations(frame, self.style, corner, width);
-        let replaced = self.counts.then_some(drawn.replaced).unwrap_or(0);
-        DrawnLine {
-            next: drawn.next,
-            replaced,
-        }
+        drawn
     }
 }

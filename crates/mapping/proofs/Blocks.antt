@@ -1,7 +1,7 @@
 -- `skip` and the functions that it calls: a law for each fact that a turn of their loops needs. Assumes nothing.
 use mathlib.Core.Path.{◌≡◌, refl, sym, ◌∙◌, ap}
 use mathlib.Core.Bool.{Bool, true, false, not, cond, and-eq-true_iff}
-use mathlib.Core.List.{List}
+use mathlib.Core.List.{List, [], ◌∷◌}
 use mathlib.Mathlib.Data.Bool.Basic.{dichotomy}
 use mathlib.Core.Logic.{⊎_elim}
 use Prim.Native.Nat.{ℕ, zero, suc, ◌+◌, ◌-◌, ◌*◌, ◌/◌, ◌%◌, ◌<◌, ◌≤◌, min, max}
@@ -10,15 +10,16 @@ use native.Mathlib.Omega.{arith}
 use native.Mathlib.Decide.{dec_lt}
 use borrow.Author.Tests.{ne_eqb, eqb-true, not-false}
 use lib.ListN.{length, get_or, take, drop, length-drop}
-use Rattle.std.proofs.Math.Seq.{take-length}
-use Rattle.std.proofs.lemmas.List.{get_or-drop, get_or-take}
+use Rattle.std.proofs.Math.Seq.{take-length, length-take-le}
+use Rattle.std.proofs.lemmas.List.{get_or-drop, get_or-take, take-append-drop}
 use Rattle.std.proofs.lemmas.List.Sums.{fails_before_first, prefix_len-le-length, prefix_len_stops}
 use Rattle.std.specs.List.{position_or_len}
 use mir.Val.{Fits}
 use mir.Syntax.{w8, w64}
 use lib.Dec.{eqb}
 use Rattle.std.specs.Int.{from_bool}
-use Rattle.characters.specs.Utf8.{is_continuation}
+use Rattle.characters.specs.Utf8.{is_continuation, fold_at, chars_from, well_formed_from}
+use Rattle.characters.proofs.Parts.{fold-after}
 use Rattle.mapping.specs.declared.search.Needle.{Needle}
 use Rattle.mapping.specs.declared.search.Block.{Block}
 use Rattle.mapping.specs.declared.search.Passed.{Passed}
@@ -31,13 +32,13 @@ abbrev pub bytes_from : List ℕ → ℕ → List ℕ
 bytes_from s at = take (length s - at) (drop at s)
 
 module _ (s : List ℕ) (at : ℕ) where
-  rest_is : bytes_from s at ≡ drop at s
+  pub rest_is : bytes_from s at ≡ drop at s
   rest_is = rw (← length-drop at s) (take-length (drop at s))
 
   rest_byte : (i : ℕ) → get_or (bytes_from s at) i 0 ≡ get_or s (at + i) 0
   rest_byte i = ap (λ l. get_or l i 0) rest_is ∙ get_or-drop at s i 0
 
-  rest_length : length (bytes_from s at) ≡ length s - at
+  pub rest_length : length (bytes_from s at) ≡ length s - at
   rest_length = ap length rest_is ∙ length-drop at s
 
   begins_after : (p : Needle) (q : ℕ) → may_begin_at (bytes_from s at) p q ≡ may_begin_at s p (at + q)
@@ -47,6 +48,21 @@ module _ (s : List ℕ) (at : ℕ) where
 
   begins_first : (p : Needle) → may_begin_at (bytes_from s at) p 0 ≡ may_begin_at s p at
   begins_first p = begins_after p 0 ∙ (let e : at + 0 ≡ at = omega arith in rw e)
+
+-- they are walked as from there on
+module _ (s : List ℕ) (at : ℕ) (h : at ≤ length s) where
+  fold-rest : {A : Type 0} (f : ℕ → A → A) (ill end : A) → fold_at f ill end (bytes_from s at) 0 ≡ fold_at f ill end s at
+  fold-rest f ill end =
+      let n : length (take at s) + 0 ≡ at = omega (arith, length-take-le at s h) in
+      rw (rest_is s at) (sym (rw (n, take-append-drop at s) at (fold-after f ill end (take at s) (drop at s) 0)))
+
+  pub chars_rest : chars_from (bytes_from s at) 0 ≡ chars_from s at
+  unfolding chars_from
+  chars_rest = fold-rest ◌∷◌ [] []
+
+  pub well_rest : well_formed_from (bytes_from s at) 0 ≡ well_formed_from s at
+  unfolding well_formed_from
+  well_rest = fold-rest (λ ch rest. rest) false true
 
 -- n bytes from a position on
 abbrev pub part : List ℕ → ℕ → ℕ → List ℕ
@@ -86,20 +102,16 @@ unfolding leads
 leads_none s at zero c = refl
 leads_none s at (suc n) c = rw (leads_none s at n (λ j l. c j (omega arith)), c n (omega arith))
 
-module _ (s : List ℕ) (at : ℕ) where
-  leads-none-yet : 0 ≡ leads s at (at - at)
-  unfolding leads
-  leads-none-yet = let e : at - at ≡ 0 = omega arith in rw e
+-- n bytes more
+leads-after : (s : List ℕ) (to n : ℕ) → leads s 0 (to + n) ≡ leads s 0 to + leads s to n
+leads-after s to n = let z : 0 + to ≡ to = omega arith in rw z at (leads-append s 0 to n)
 
-  -- n bytes more
-  leads-on : (to k n v : ℕ) → at ≤ to → k ≡ leads s at (to - at) → v ≡ leads s to n → k + v ≡ leads s at (to + n - at)
-  leads-on to k n v h e f =
-      let split : to + n - at ≡ (to - at) + n = omega arith in
-      let i : at + (to - at) ≡ to = omega arith in
-      rw (split, leads-append s at (to - at) n, i) (omega arith)
+module _ (s : List ℕ) (to k n v : ℕ) (e : k ≡ leads s 0 to) where
+  leads-on : v ≡ leads s to n → k + v ≡ leads s 0 (to + n)
+  leads-on f = omega (arith, leads-after s to n)
 
-  leads-fit : (to k n v : ℕ) → at ≤ to → k ≡ leads s at (to - at) → v ≤ n → to + n ≤ length s → Fits w64 (length s) → Fits w64 (k + v)
-  leads-fit to k n v h e l m f = omega (arith, leads_le s at (to - at))
+  leads-fit : v ≤ n → to + n ≤ length s → Fits w64 (length s) → Fits w64 (k + v)
+  leads-fit l m f = omega (arith, leads_le s 0 to)
 
 module _ (s : List ℕ) where
   pub leads-start : 0 ≡ leads s 0 0
@@ -207,84 +219,76 @@ before_continued : (limit b : ℕ) → 0xC0 ≤ limit → Fits w8 limit → is_l
 unfolding before is_lead
 before_continued limit b m n f = let c = continues b (not-false _ f) in omega arith
 
-module _ (s : List ℕ) (limit from : ℕ) where
-  pub below_none : from ≤ length s → Below s limit from (record { at = from; count = 0 })
-  below_none h = record { forward = omega arith; within = h; counted = leads-none-yet s from; low = λ q a b. absurd (omega arith) }
-
-  module _ (r : Passed) (g : Below s limit from r) where
-    below-passes : (p : Needle) → before limit ≤ before p.lead → Passes s p from r
+module _ (s : List ℕ) (limit : ℕ) where
+  module _ (r : Passed) (g : Below s limit r) where
+    below-passes : (p : Needle) → before limit ≤ before p.lead → Passes s p r
     below-passes p h = record {
-      forward = g.forward;
       within = g.within;
       counted = g.counted;
-      clear = λ q x y. before_less p _ _ _ _ (omega (arith, g.low q x y));
+      clear = λ q x. before_less p _ _ _ _ (omega (arith, g.low q x));
     }
 
-  pub skips_below_none : from ≤ length s → SkipsBelow s limit from (record { at = from; count = 0 })
-  skips_below_none h = record { below = below_none h; boundary = λ l. absurd (omega arith) }
+    pub passes_lead : (p : Needle) → limit ≡ p.lead → Passes s p (record { at = r.at + 0; count = r.count })
+    passes_lead p e = let i : r.at + 0 ≡ r.at = omega arith in rw i (below-passes p (rw e (omega arith)))
+
+    -- on to the first lead byte: a byte that continues a sequence is below every byte with which one of several begins
+    module _ (n : ℕ) (e : n ≡ position_or_len is_lead (bytes_from s r.at)) where
+      lead_within : n ≤ length s - r.at
+      lead_within = omega (arith, prefix_len-le-length (λ b. not (is_lead b)) (bytes_from s r.at), rest_length s r.at)
+
+      pub lead_fits : Fits w64 (length s) → Fits w64 (r.at + n)
+      lead_fits f = let l = lead_within in let w = g.within in omega arith
+
+      continued : (j : ℕ) → j < n → is_lead (get_or s (r.at + j) 0) ≡ false
+      continued j l = rw (← rest_byte s r.at j) (fails_before_first is_lead (bytes_from s r.at) j 0 (rw e at l))
+
+      pub skips_on : 0xC0 ≤ limit → Fits w8 limit → SkipsBelow s limit (record { at = r.at + n; count = r.count })
+      skips_on m f =
+          let none = leads_none s r.at n continued in
+          let l = lead_within in
+          let w = g.within in
+          record {
+            several = m;
+            below = record {
+              within = omega arith;
+              counted = let c = g.counted in omega (arith, leads-after s r.at n);
+              low = λ q x. elim (dec_lt q r.at) [
+                | yes l ↦ g.low q l
+                | no l ↦ (
+                    let j : r.at + (q - r.at) ≡ q = omega arith in
+                    before_continued limit (get_or s q 0) m f (rw j at (continued (q - r.at) (omega arith)))
+                    )
+              ];
+            };
+            boundary = λ y.
+                let z : position_or_len is_lead (bytes_from s r.at) < length (bytes_from s r.at) = omega (arith, rest_length s r.at) in
+                let t = prefix_len_stops (λ b. not (is_lead b)) (bytes_from s r.at) 0 z in
+                rw (e, ← rest_byte s r.at (position_or_len is_lead (bytes_from s r.at))) (not-false _ t);
+          }
 
   -- for a character whose sequence begins with the limit or a higher byte
-  pub skips_from : (r : Passed) → SkipsBelow s limit from r → (ch lead x y : ℕ) → lead ≡ (needle_of ch).lead → x ≡ (limit + 255) % 256 → y ≡ (lead + 255) % 256
-      → from < r.at → x ≤ y → Skips s (needle_of ch) from r
+  pub skips_from : (r : Passed) → SkipsBelow s limit r → (ch lead : ℕ) → lead ≡ (needle_of ch).lead → limit ≤ lead → Fits w8 lead → Skips s (needle_of ch) r
   unfolding before
-  skips_from r g ch lead x y e f i h l =
-      record { passes = below-passes r g.below (needle_of ch) (rw (← e, ← f, ← i) l); boundary = g.boundary h }
+  skips_from r g ch lead e l f =
+      let m = g.several in record { passes = below-passes r g.below (needle_of ch) (rw (← e) (omega arith)); boundary = g.boundary }
 
-  -- on to the first lead byte: a byte that continues a sequence is below every byte with which one of several begins
-  module _ (r : Passed) (g : Below s limit from r) (n : ℕ) (e : n ≡ position_or_len is_lead (bytes_from s r.at)) where
-    lead_within : n ≤ length s - r.at
-    lead_within = omega (arith, prefix_len-le-length (λ b. not (is_lead b)) (bytes_from s r.at), rest_length s r.at)
-
-    pub lead_fits : Fits w64 (length s) → Fits w64 (r.at + n)
-    lead_fits f = let l = lead_within in let w = g.within in omega arith
-
-    continued : (j : ℕ) → j < n → is_lead (get_or s (r.at + j) 0) ≡ false
-    continued j l = rw (← rest_byte s r.at j) (fails_before_first is_lead (bytes_from s r.at) j 0 (rw e at l))
-
-    pub skips_on : 0xC0 ≤ limit → Fits w8 limit → SkipsBelow s limit from (record { at = r.at + n; count = r.count })
-    skips_on m f =
-        let none : 0 ≡ leads s r.at n = sym (leads_none s r.at n continued) in
-        let i : r.count + 0 ≡ r.count = omega arith in
-        let l = lead_within in
-        let w = g.within in
-        record {
-          below = record {
-            forward = omega arith;
-            within = omega arith;
-            counted = rw i at (leads-on s from r.at r.count n 0 g.forward g.counted none);
-            low = λ q x y. elim (dec_lt q r.at) [
-              | yes l ↦ g.low q x l
-              | no l ↦ (
-                  let j : r.at + (q - r.at) ≡ q = omega arith in
-                  before_continued limit (get_or s q 0) m f (rw j at (continued (q - r.at) (omega arith)))
-                  )
-            ];
-          };
-          boundary = λ x y.
-              let z : position_or_len is_lead (bytes_from s r.at) < length (bytes_from s r.at) = omega (arith, rest_length s r.at) in
-              let t = prefix_len_stops (λ b. not (is_lead b)) (bytes_from s r.at) 0 z in
-              rw (e, ← rest_byte s r.at (position_or_len is_lead (bytes_from s r.at))) (not-false _ t);
-        }
-
-module _ (s : List ℕ) (limit : ℕ) where
   -- no block yet
-  pub below_start : Below s limit 0 (record { at = 0; count = 0 })
-  below_start = below_none s limit 0 (omega arith)
+  pub below_start : Below s limit (record { at = 0; count = 0 })
+  below_start = record { within = omega arith; counted = leads-start s; low = λ q a. absurd (omega arith) }
 
-  module _ (k n : ℕ) (g : Below s limit 0 (record { at = 128 * k; count = n })) where
+  module _ (k n : ℕ) (g : Below s limit (record { at = 128 * k; count = n })) where
     -- a block more
     module _ (l : k < length s / 128) (b : Block) (h : OfBlock (part s (128 * k) 128) 0 b) (v : ℕ) (w : v ≡ b.leads) where
-      pub below_block : (m : ℕ) → m ≡ (limit + 255) % 256 → b.most < m → Below s limit 0 (record { at = 128 * (k + 1); count = n + v })
+      pub below_block : (m : ℕ) → m ≡ (limit + 255) % 256 → b.most < m → Below s limit (record { at = 128 * (k + 1); count = n + v })
       unfolding before
       below_block m i c =
           let o = block_part s (128 * k) b h in
           let z : 128 * (k + 1) ≡ 128 * k + 128 = omega arith in
           rw z (record {
-            forward = omega arith;
             within = omega arith;
-            counted = leads-on s 0 (128 * k) n 128 v g.forward g.counted (w ∙ o.counted);
-            low = λ q x y. elim (dec_lt q (128 * k)) [
-              | yes z ↦ g.low q x z
+            counted = leads-on s (128 * k) n 128 v g.counted (w ∙ o.counted);
+            low = λ q x. elim (dec_lt q (128 * k)) [
+              | yes z ↦ g.low q z
               | no z ↦ (
                   let j : 128 * k + (q - 128 * k) ≡ q = omega arith in
                   let t : before (get_or s q 0) ≤ b.most = rw j at (o.bounded (q - 128 * k) (omega arith)) in
@@ -294,29 +298,25 @@ module _ (s : List ℕ) (limit : ℕ) where
           })
 
       pub block_fits : Fits w64 (length s) → Fits w64 (n + v)
-      block_fits f = let o = block_part s (128 * k) b h in leads-fit s 0 (128 * k) n 128 v g.forward g.counted (omega (arith, leads_le s (128 * k) 128, o.counted)) (omega arith) f
-
-pub passes_lead : (s : List ℕ) (p : Needle) (from : ℕ) (r : Passed) → Below s p.lead from r → Passes s p from (record { at = r.at + 0; count = r.count })
-passes_lead s p from r g = let e : r.at + 0 ≡ r.at = omega arith in rw e (below-passes s p.lead from r g p (omega arith))
+      block_fits f = let o = block_part s (128 * k) b h in leads-fit s (128 * k) n 128 v g.counted (omega (arith, leads_le s (128 * k) 128, o.counted)) (omega arith) f
 
 -- ---- bytes with which nothing begins
 
-module _ (s : List ℕ) (p : Needle) (from : ℕ) where
-  pub passes_none : from ≤ length s → Passes s p from (record { at = from; count = 0 })
-  passes_none h = record { forward = omega arith; within = h; counted = leads-none-yet s from; clear = λ q a b. absurd (omega arith) }
+module _ (s : List ℕ) (p : Needle) where
+  pub passes_none : Passes s p (record { at = 0; count = 0 })
+  passes_none = record { within = omega arith; counted = leads-start s; clear = λ q a. absurd (omega arith) }
 
-  module _ (at k : ℕ) (g : Passes s p from (record { at = at; count = k })) where
+  module _ (at k : ℕ) (g : Passes s p (record { at = at; count = k })) where
     passes-fits : (n v : ℕ) → v ≤ n → at + n ≤ length s → Fits w64 (length s) → Fits w64 (k + v)
-    passes-fits n v l h f = leads-fit s from at k n v g.forward g.counted l h f
+    passes-fits n v l h f = leads-fit s at k n v g.counted l h f
 
     passes-more : (n v : ℕ) → at + n ≤ length s → v ≡ leads s at n → ((j : ℕ) → j < n → may_begin_at s p (at + j) ≡ false)
-        → Passes s p from (record { at = at + n; count = k + v })
+        → Passes s p (record { at = at + n; count = k + v })
     passes-more n v h e c = record {
-      forward = omega arith;
       within = h;
-      counted = leads-on s from at k n v g.forward g.counted e;
-      clear = λ q a b. elim (dec_lt q at) [
-        | yes l ↦ g.clear q a l
+      counted = leads-on s at k n v g.counted e;
+      clear = λ q b. elim (dec_lt q at) [
+        | yes l ↦ g.clear q l
         | no l ↦ let j : at + (q - at) ≡ q = omega arith in rw j at (c (q - at) (omega arith))
       ];
     }
@@ -327,17 +327,17 @@ module _ (s : List ℕ) (p : Needle) (from : ℕ) where
     byte_fits v t h e f = passes-fits 1 v (let o = one_le t in let z = one_is t in omega arith) (omega arith) f
 
     pub passes_byte : (v : ℕ) (t u : Bool) → at < length s → u ≡ may_begin_at (bytes_from s at) p 0 → u ≡ false → t ≡ is_lead (get_or s at 0) → v ≡ from_bool t
-        → Passes s p from (record { at = at + 1; count = k + v })
+        → Passes s p (record { at = at + 1; count = k + v })
     unfolding leads
     passes_byte v t u h o n f e =
         let z : at + 0 ≡ at = omega arith in
         passes-more 1 v (omega arith) (rw z (e ∙ one_is t ∙ rw f (omega arith))) (λ j l. let i : j ≡ 0 = omega arith in rw (i, z, ← begins_first s at p, ← o) n)
 
-    pub skips_begin : (u : Bool) → IsNeedle p → u ≡ may_begin_at (bytes_from s at) p 0 → u ≡ true → Skips s p from (record { at = at; count = k })
+    pub skips_begin : (u : Bool) → IsNeedle p → u ≡ may_begin_at (bytes_from s at) p 0 → u ≡ true → Skips s p (record { at = at; count = k })
     skips_begin u i o y = record { passes = g; boundary = λ h. begins_lead p _ _ _ _ i.leads (sym (begins_first s at p) ∙ sym o ∙ y) }
 
   -- 64 bytes after `base`, k times
-  module _ (base k n : ℕ) (g : Passes s p from (record { at = base + 64 * k; count = n })) where
+  module _ (base k n : ℕ) (g : Passes s p (record { at = base + 64 * k; count = n })) where
     module _ (r : ℕ) (e : r ≡ length s - base - 3) (l : k < r / 64) (left : ℕ) (i : IsNeedle p) (h : OfHit (part s (base + 64 * k) 67) p 0 left) where
       -- m bytes more
       module _ (m u v : ℕ) (w : u ≡ leads (part s (base + 64 * k) 64) 0 m) (x : v ≡ u) where
@@ -347,7 +347,7 @@ module _ (s : List ℕ) (p : Needle) (from : ℕ) where
         more-fits : m ≤ 64 → Fits w64 (length s) → Fits w64 (n + v)
         more-fits y f = passes-fits (base + 64 * k) n g m v (omega (arith, leads_le s (base + 64 * k) m, counted-part y)) (omega arith) f
 
-        more : m + left ≤ 64 → Passes s p from (record { at = base + 64 * k + m; count = n + v })
+        more : m + left ≤ 64 → Passes s p (record { at = base + 64 * k + m; count = n + v })
         more y =
             let o = hit_part s (base + 64 * k) p left i h in
             passes-more (base + 64 * k) n g m v (omega arith) (x ∙ counted-part (omega arith)) (λ j l. o.clear j (omega arith))
@@ -358,96 +358,42 @@ module _ (s : List ℕ) (p : Needle) (from : ℕ) where
         pub through_fits : m ≡ 64 → Fits w64 (length s) → Fits w64 (n + v)
         through_fits q = more-fits (omega arith)
 
-        pub passes_hit : (z : ℕ) → z ≡ m → m ≡ 64 - left → Passes s p from (record { at = base + 64 * k + z; count = n + v })
+        pub passes_hit : (z : ℕ) → z ≡ m → m ≡ 64 - left → Passes s p (record { at = base + 64 * k + z; count = n + v })
         passes_hit z f q = let y = h.most in rw f (more (omega arith))
 
-        pub passes_through : m ≡ 64 → left ≤ 0 → Passes s p from (record { at = base + 64 * (k + 1); count = n + v })
+        pub passes_through : m ≡ 64 → left ≤ 0 → Passes s p (record { at = base + 64 * (k + 1); count = n + v })
         passes_through q z =
             let e : base + 64 * (k + 1) ≡ base + 64 * k + m = omega arith in
             rw e (more (omega arith))
 
-pub passes_start : (s : List ℕ) (p : Needle) → Passes s p 0 (record { at = 0; count = 0 })
-passes_start s p = passes_none s p 0 (omega arith)
+-- what was passed over one after the other
+module _ (s : List ℕ) (p : Needle) (g r : Passed) (a : Passes s p g) (b : Skips (bytes_from s g.at) p r) where
+  rest-leads : (n : ℕ) → leads (bytes_from s g.at) 0 n ≡ leads s g.at n
+  unfolding leads
+  rest-leads zero = refl
+  rest-leads (suc n) = let e : 0 + n ≡ n = omega arith in rw (rest-leads n, e, rest_byte s g.at n)
 
-module _ (s : List ℕ) (p : Needle) (from : ℕ) (g r : Passed) (a : Passes s p from g) (b : Skips s p g.at r) where
-  -- what was passed over one after the other
-  pub skips_join : Skips s p from (record { at = r.at; count = g.count + r.count })
-  skips_join =
+  pub skips_both : Skips s p (record { at = g.at + r.at; count = g.count + r.count })
+  skips_both =
       let c = b.passes in
-      let j : g.at + (r.at - g.at) ≡ r.at = omega arith in
+      let e = rest_length s g.at in
       record {
         passes = record {
-          forward = omega arith;
-          within = c.within;
-          counted = rw j at (leads-on s from g.at g.count (r.at - g.at) r.count a.forward a.counted c.counted);
-          clear = λ q x y. elim (dec_lt q g.at) [ yes l ↦ a.clear q x l | no l ↦ c.clear q (omega arith) y ];
+          within = let u = a.within in let v = c.within in omega arith;
+          counted = leads-on s g.at g.count r.at r.count a.counted (c.counted ∙ rest-leads r.at);
+          clear = λ q x. elim (dec_lt q g.at) [
+            | yes l ↦ a.clear q l
+            | no l ↦ (
+                let j : g.at + (q - g.at) ≡ q = omega arith in
+                rw j at (sym (begins_after s g.at p (q - g.at)) ∙ c.clear (q - g.at) (omega arith))
+                )
+          ];
         };
-        boundary = b.boundary;
+        boundary = λ l. rw (← rest_byte s g.at r.at) (b.boundary (omega arith));
       }
 
--- ---- what is passed over of the bytes from a position on
-
-module _ (s : List ℕ) (at : ℕ) where
-  leads_rest : (n : ℕ) → leads (bytes_from s at) 0 n ≡ leads s at n
-  unfolding leads
-  leads_rest zero = refl
-  leads_rest (suc n) = let e : 0 + n ≡ n = omega arith in rw (leads_rest n, e, rest_byte s at n)
-
-  module _ (h : at ≤ length s) (r : Passed) where
-    -- to the end of what was passed over
-    to-end : r.at ≤ length (bytes_from s at) → at + r.at ≤ length s
-    to-end l = let e = rest_length s at in omega arith
-
-    counted-after : r.count ≡ leads (bytes_from s at) 0 (r.at - 0) → r.count ≡ leads s at (at + r.at - at)
-    counted-after e =
-        let i : r.at - 0 ≡ r.at = omega arith in
-        let j : at + r.at - at ≡ r.at = omega arith in
-        rw j (rw i at e ∙ leads_rest r.at)
-
-    lead-after : (r.at < length (bytes_from s at) → is_lead (get_or (bytes_from s at) r.at 0) ≡ true) → at + r.at < length s → is_lead (get_or s (at + r.at) 0) ≡ true
-    lead-after b l = rw (← rest_byte s at r.at) (b (omega (arith, rest_length s at)))
-
-    pub skips_below_after : (limit : ℕ) → SkipsBelow (bytes_from s at) limit 0 r → SkipsBelow s limit at (record { at = at + r.at; count = r.count })
-    skips_below_after limit g =
-        let b = g.below in
-        record {
-          below = record {
-            forward = omega arith;
-            within = to-end b.within;
-            counted = counted-after b.counted;
-            low = λ q x y.
-                let j : at + (q - at) ≡ q = omega arith in
-                let t = b.low (q - at) (omega arith) (omega arith) in
-                rw j at (rw (rest_byte s at (q - at)) at t);
-          };
-          boundary = λ x y. lead-after (λ l. g.boundary (omega arith) l) y;
-        }
-
-    pub skips_after : (p : Needle) → Skips (bytes_from s at) p 0 r → Skips s p at (record { at = at + r.at; count = r.count })
-    skips_after p g =
-        let a = g.passes in
-        record {
-          passes = record {
-            forward = omega arith;
-            within = to-end a.within;
-            counted = counted-after a.counted;
-            clear = λ q x y.
-                let j : at + (q - at) ≡ q = omega arith in
-                rw j at (sym (begins_after s at p (q - at)) ∙ a.clear (q - at) (omega arith) (omega arith));
-          };
-          boundary = λ l. lead-after g.boundary l;
-        }
-
--- one after the other from a position on
-module _ (s : List ℕ) (p : Needle) (at : ℕ) (g r : Passed) (h : at ≤ length s) (a : Passes (bytes_from s at) p 0 g) (b : Skips (bytes_from (bytes_from s at) g.at) p 0 r) where
-  join : Skips (bytes_from s at) p 0 (record { at = g.at + r.at; count = g.count + r.count })
-  join = skips_join (bytes_from s at) p 0 g (record { at = g.at + r.at; count = r.count }) a (skips_after (bytes_from s at) g.at a.within r p b)
-
-  pub both : Skips s p at (record { at = at + (g.at + r.at); count = g.count + r.count })
-  both = skips_after s at h (record { at = g.at + r.at; count = g.count + r.count }) p join
-
   pub count_fits : Fits w64 (length s) → Fits w64 (g.count + r.count)
-  count_fits f = let w = both.passes.within in omega (arith, leads_le s at (at + (g.at + r.at) - at), both.passes.counted)
+  count_fits f = let k = skips_both.passes in let w = k.within in omega (arith, leads_le s 0 (g.at + r.at), k.counted)
 
 -- ---- the lead byte of a sequence
 

@@ -7,22 +7,21 @@ use Prim.Native.Nat.{ℕ, suc, ◌+◌, ◌-◌, ◌^◌, ◌<◌, ◌≤◌, mi
 use native.Mathlib.Omega.{arith}
 use native.Mathlib.Decide.{dec_lt}
 use borrow.Author.Tests.{leb-true, not-true, le-leb, lt-leb}
-use lib.ListN.{length, length-append}
+use lib.ListN.{length, drop, length-append}
 use lib.Dec.{leb, eqb}
 use mir.Val.{Fits}
 use mir.Syntax.{w32, w64}
 use Rattle.characters.specs.declared.Cursor.{Cursor}
-use Rattle.characters.specs.Utf8.{is_surrogate, chars_from, well_formed_from}
+use Rattle.characters.specs.Utf8.{is_surrogate, chars_from, well_formed_from, well_formed}
 use Rattle.mapping.specs.declared.Entry.{Entry}
 use Rattle.mapping.specs.declared.Entry.TheVariants as entry
-use Rattle.std.specs.Prelude.{Option, Some, None}
+use Rattle.std.specs.Prelude.{Option, Some, None, IfSome}
 use Rattle.mapping.specs.declared.Glyph.{Glyph}
-use Rattle.mapping.specs.declared.Start.{Start}
-use Rattle.mapping.specs.declared.search.Passed.{Passed}
+use Rattle.mapping.specs.declared.PassedBelow.{PassedBelow}
 use Rattle.mapping.specs.Search.{SkipsBelow, StartOf}
-use Rattle.mapping.specs.Entries.{entry_at, after_entry, in_range, at_most, glyph_at, stop_refusal, ListFrom, WithinLimit}
+use Rattle.mapping.specs.Entries.{entry_at, after_entry, in_range, at_most, glyph_at, stop_refusal, WithinLimit}
 use Rattle.mapping.specs.Mapping.{from_to, spelled, list_of, place_from, refusal}
-use Rattle.mapping.proofs.Blocks.{bytes_from, skips_below_after}
+use Rattle.mapping.proofs.Blocks.{bytes_from, rest_is, chars_rest, well_rest}
 use Rattle.mapping.proofs.Ranges.{length_range_le, length_range_through, place_in, place_past}
 use Rattle.mapping.proofs.Entries.{StoppedEntry, entry_range, entry_stopped, entry_ill_formed, entry_end, stopped_entry}
 
@@ -98,7 +97,7 @@ module _ (s : List ℕ) (at : ℕ) {x : Entry} (e : x ≡ entry_at s at) {start 
       found_at most k p j f z m h = rw m (rw (found-place k p z) at h)
 
     pub find_again : t ≡ false → (most k z j : ℕ) (f : Option ℕ) → z ≡ length (from_to start end) → j ≡ min (k + z) most
-        → at_most most (place_from k ch (spelled (chars_from s at))) ≡ f → at_most most (place_from j ch (spelled (chars_from s c.at))) ≡ f
+        → at_most most (place_from k ch (spelled (chars_from s at))) ≡ f → at_most most (place_from j ch (list_of (bytes_from s c.at))) ≡ f
     unfolding in_range
     find_again n most k z j f l m h =
         let inside : is_surrogate ch ≡ false → start ≤ ch → ch ≤ end → in_range start end ch ≡ true =
@@ -106,18 +105,18 @@ module _ (s : List ℕ) (at : ℕ) {x : Entry} (e : x ≡ entry_at s at) {start 
         let there : place_from k ch (spelled (chars_from s at)) ≡ place_from (k + z) ch (spelled (chars_from s c.at)) =
         rw ((entry_range s at e q).spells, l)
         (place_past ch (spelled (chars_from s c.at)) (suc end - start) k start (λ p a b. true≢false (sym (inside p a (omega arith)) ∙ sym i ∙ n))) in
-        place_capped most ch (spelled (chars_from s c.at)) j (k + z) (omega arith) ∙ (rw there at h)
+        rw (chars_rest s c.at entry_within) (place_capped most ch (spelled (chars_from s c.at)) j (k + z) (omega arith) ∙ (rw there at h))
 
     -- after the first entry, counted from as many as it has
     pub after_first : t ≡ false → (z j : ℕ) (f : Option ℕ) → z ≡ length (from_to start end) → j ≡ min z 65_536
-        → f ≡ at_most 65_536 (place_from j ch (spelled (chars_from s c.at))) → f ≡ at_most 65_536 (place_from 0 ch (spelled (chars_from s at)))
+        → f ≡ at_most 65_536 (place_from j ch (list_of (bytes_from s c.at))) → f ≡ at_most 65_536 (place_from 0 ch (spelled (chars_from s at)))
     after_first n z j f l m h = h ∙ find_again n 65_536 0 z j _ l (omega arith) refl
-
-  pub list_after : well_formed_from s at ≡ true → ListFrom s c.at
-  list_after w = let g = entry_range s at e q in record { within = g.within; well = sym g.well_formed_lem ∙ w }
 
   pub walk_again : (w : Bool) → well_formed_from s at ≡ w → well_formed_from s c.at ≡ w
   walk_again w i = sym (entry_range s at e q).well_formed_lem ∙ i
+
+  pub rest_well : well_formed_from s at ≡ true → well_formed (bytes_from s c.at) ≡ true
+  rest_well i = well_rest s c.at entry_within ∙ walk_again true i
 
   pub count_again : (most k z j total : ℕ) → z ≡ length (from_to start end) → j ≡ min (k + z) most
       → min (k + length (spelled (chars_from s at))) most ≡ total → min (j + length (spelled (chars_from s c.at))) most ≡ total
@@ -155,35 +154,18 @@ module _ (s : List ℕ) (at : ℕ) {x : Entry} (e : x ≡ entry_at s at) (t : St
 
 -- ---- where the search starts
 
-pub after_range : {x : Entry} {start end : ℕ} {c : Cursor} → x ≡ entry.Range start end c → c.at ≡ after_entry x
-unfolding after_entry
-after_range q = rw q
+module _ (s : List ℕ) (x : Entry) {start end : ℕ} {c : Cursor} (q : x ≡ entry.Range start end c) where
+  after-range : bytes_from s c.at ≡ drop (after_entry x) s
+  unfolding after_entry
+  after-range = rw q (rest_is s c.at)
 
-pub after_stopped : (x : Entry) → StoppedEntry x → 0 ≡ after_entry x
-unfolding after_entry
-after_stopped x t = ⊎_elim (λ q. rw q) (λ q. rw q) (stopped_entry x t)
+  -- bytes passed over after the first entry
+  pub start_after : (o : Option PassedBelow) → x ≡ entry_at s 0 → IfSome o (λ b. SkipsBelow (bytes_from s c.at) b.lead b.passed)
+      → StartOf s (record { first = entry.Range start end c; below = o })
+  start_after o e g = record { first = sym q ∙ e; below = rw (after-range, q) at g }
 
-pub after-within : (s : List ℕ) (at : ℕ) {x : Entry} → x ≡ entry_at s at → (n : ℕ) → n ≡ after_entry x → n ≤ length s
-unfolding after_entry
-after-within s at {x} e n i = by x e i
-  where
-    by : (y : Entry) → y ≡ entry_at s at → n ≡ after_entry y → n ≤ length s
-    by (entry.Range start end c) f j = let g = entry_range s at f refl in omega arith
-    by entry.IllFormed f j = omega arith
-    by entry.End f j = omega arith
-
-pub start_made : (s : List ℕ) (x : Entry) (lead from : ℕ) (r : Passed) → x ≡ entry_at s 0 → from ≡ after_entry x → SkipsBelow s lead from r
-    → StartOf s (record { first = x; lead = lead; passed = r })
-start_made s x lead from r e i g = record { first = e; passed = rw i at g }
-
--- bytes passed over after the first entry
-pub start_after : (s : List ℕ) (x : Entry) (lead from : ℕ) (r : Passed) → x ≡ entry_at s 0 → from ≡ after_entry x → SkipsBelow (bytes_from s from) lead 0 r
-    → StartOf s (record { first = x; lead = lead; passed = record { at = from + r.at; count = r.count } })
-start_after s x lead from r e i g = start_made s x lead from _ e i (skips_below_after s from (after-within s 0 e from i) r lead g)
-
-pub start_below : (s : List ℕ) (x : Start) → StartOf s x → {start end : ℕ} {c : Cursor} → x.first ≡ entry.Range start end c
-    → SkipsBelow s x.lead c.at x.passed
-start_below s x g q = rw (after_range q) g.passed
+  pub start_below : (o : Option PassedBelow) → IfSome o (λ b. SkipsBelow (drop (after_entry x) s) b.lead b.passed) → IfSome o (λ b. SkipsBelow (bytes_from s c.at) b.lead b.passed)
+  start_below o g = rw after-range g
 
 -- ---- `glyph_with` and `glyph_of`
 

@@ -2,16 +2,18 @@
 use mathlib.Core.Path.{◌≡◌, refl, sym, ◌∙◌}
 use mathlib.Core.Bool.{Bool, true, false, ◌||◌, true≢false}
 use mathlib.Core.List.{List, ◌∷◌}
-use Prim.Native.Nat.{ℕ, zero, suc, ◌+◌, ◌-◌, ◌%◌, ◌<◌, ◌≤◌, min}
+use Prim.Native.Nat.{ℕ, zero, suc, ◌+◌, ◌-◌, ◌<◌, ◌≤◌, min}
 use native.Mathlib.Omega.{arith}
 use native.Mathlib.Decide.{dec_lt}
 use borrow.Author.Tests.{eq-eqb, ne_eqb}
 use lib.ListN.{length, get_or}
+use mir.Val.{Fits}
+use mir.Syntax.{w8}
 use lib.Dec.{eqb}
 use Rattle.characters.specs.declared.Cursor.{Cursor}
 use Rattle.characters.specs.declared.Step.{Step}
 use Rattle.characters.specs.declared.Step.TheVariants.{Character, IllFormed, End}
-use Rattle.characters.specs.Utf8.{step_at, chars_from, well_formed_from}
+use Rattle.characters.specs.Utf8.{step_at, chars_from, well_formed_from, well_formed}
 use Rattle.characters.proofs.Steps.{step_advances, step_end}
 use Rattle.characters.proofs.Folds.{ill_formed_stopped, chars-character, well_formed-character, well_formed_stopped}
 use Rattle.mapping.specs.declared.search.Needle.{Needle}
@@ -19,10 +21,10 @@ use Rattle.mapping.specs.declared.search.Passed.{Passed}
 use Rattle.mapping.specs.declared.Entry.{Entry}
 use Rattle.mapping.specs.declared.Entry.TheVariants as entry
 use Rattle.std.specs.Prelude.{Option, None}
-use Rattle.mapping.specs.Entries.{entry_at, at_most, ListFrom}
-use Rattle.mapping.specs.Mapping.{spelled, place_from}
+use Rattle.mapping.specs.Entries.{entry_at, at_most}
+use Rattle.mapping.specs.Mapping.{spelled, list_of, place_from}
 use Rattle.mapping.specs.Search.{is_lead, leads, needle_of, may_begin, may_begin_at, SkipsBelow, Passes, Skips, Resumes}
-use Rattle.mapping.proofs.Blocks.{leads-append, leads_one, passes_none, skips_from, bytes_from, both}
+use Rattle.mapping.proofs.Blocks.{leads-append, leads_one, passes_none, skips_from, skips_both, bytes_from, rest_length, chars_rest, well_rest}
 use Rattle.mapping.proofs.Entries.{StoppedEntry, entry_range}
 use Rattle.mapping.proofs.Places.{place_capped, find_stopped}
 use Rattle.mapping.proofs.Sequences.{Spelt, step_spelt}
@@ -37,13 +39,13 @@ well_lead s at (Character ch c) e v h = (step_spelt s at e).starts
 well_lead s at IllFormed e v h = absurd (true≢false (sym v ∙ well_formed_stopped s at e ill_formed_stopped h))
 well_lead s at End e v h = absurd (let q = step_end s at e refl in omega arith)
 
-pub skips_none : (s : List ℕ) (p : Needle) (from : ℕ) → ListFrom s from → Skips s p from (record { at = from; count = 0 })
-skips_none s p from g = record { passes = passes_none s p from g.within; boundary = λ h. well_lead s from (step_at s from) refl g.well h }
+pub skips_none : (s : List ℕ) (p : Needle) → well_formed s ≡ true → Skips s p (record { at = 0; count = 0 })
+skips_none s p v = record { passes = passes_none s p; boundary = λ h. well_lead s 0 (step_at s 0) refl v h }
 
 -- the needle that was found is the character's
-pub skips_needle : (s : List ℕ) (ch : ℕ) (p : Needle) (from : ℕ) (g r : Passed) → p ≡ needle_of ch → ListFrom s from → Passes (bytes_from s from) p 0 g
-    → Skips (bytes_from (bytes_from s from) g.at) p 0 r → Skips s (needle_of ch) from (record { at = from + (g.at + r.at); count = g.count + r.count })
-skips_needle s ch p from g r e h a b = rw (← e) (both s p from g r h.within a b)
+pub skips_needle : (s : List ℕ) (ch : ℕ) (p : Needle) (g r : Passed) → p ≡ needle_of ch → Passes s p g → Skips (bytes_from s g.at) p r
+    → Skips s (needle_of ch) (record { at = g.at + r.at; count = g.count + r.count })
+skips_needle s ch p g r e a b = rw (← e) (skips_both s p g r a b)
 
 module _ (s : List ℕ) (ch : ℕ) where
   -- where 00 or the character stands, it may begin
@@ -125,45 +127,46 @@ module _ (s : List ℕ) (ch : ℕ) where
       | no l ↦ rest-none from (omega arith) v
     ]
 
-module _ (s : List ℕ) (ch from : ℕ) (r : Passed) (g : Skips s (needle_of ch) from r) (v : well_formed_from s from ≡ true) where
-  rest : Rest s ch from r.at
+-- ---- what `skip` passed over
+
+module _ (s : List ℕ) (ch : ℕ) (r : Passed) (g : Skips s (needle_of ch) r) (v : well_formed s ≡ true) where
+  rest : Rest s ch 0 r.at
   rest =
       let p = g.passes in
-      rest-by s ch r.at p.within g.boundary (suc (r.at - from)) from (step_at s from) refl (omega arith) p.forward v p.clear
+      rest-by s ch r.at p.within g.boundary (suc r.at) 0 (step_at s 0) refl (omega arith) (omega arith) v (λ q a b. p.clear q b)
 
-  pub skip_well : well_formed_from s r.at ≡ true
-  skip_well = rest.well
+  pub skip_well : well_formed (bytes_from s r.at) ≡ true
+  skip_well = well_rest s r.at g.passes.within ∙ rest.well
+
+  -- the position in the rest
+  skip-placed : (k : ℕ) → place_from k ch (list_of s) ≡ place_from (k + leads s 0 r.at) ch (list_of (bytes_from s r.at))
+  skip-placed k = let z : r.at - 0 ≡ r.at = omega arith in rw (chars_rest s r.at g.passes.within) (rw z at (rest.placed k))
 
   pub skip_again : (most k m j : ℕ) (f : Option ℕ) → m ≡ min r.count most → j ≡ min (k + m) most
-      → at_most most (place_from k ch (spelled (chars_from s from))) ≡ f → at_most most (place_from j ch (spelled (chars_from s r.at))) ≡ f
+      → at_most most (place_from k ch (list_of s)) ≡ f → at_most most (place_from j ch (list_of (bytes_from s r.at))) ≡ f
   skip_again most k m j f a b h =
       let n = g.passes.counted in
-      place_capped most ch (spelled (chars_from s r.at)) j (k + leads s from (r.at - from)) (omega arith) ∙ (rw (rest.placed k) at h)
+      place_capped most ch (list_of (bytes_from s r.at)) j (k + leads s 0 r.at) (omega arith) ∙ (rw (skip-placed k) at h)
 
-  pub skip_stopped : {x : Entry} → x ≡ entry_at s r.at → StoppedEntry x
-      → (most k : ℕ) (f : Option ℕ) → at_most most (place_from k ch (spelled (chars_from s from))) ≡ f → None ≡ f
-  skip_stopped e t most k f h = find_stopped s r.at e t most _ ch f (rw (rest.placed k) at h)
+  pub skip_stopped : {x : Entry} → x ≡ entry_at (bytes_from s r.at) 0 → StoppedEntry x
+      → (most k : ℕ) (f : Option ℕ) → at_most most (place_from k ch (list_of s)) ≡ f → None ≡ f
+  skip_stopped e t most k f h = find_stopped (bytes_from s r.at) 0 e t most _ ch f (rw (skip-placed k) at h)
 
 -- after what was passed over, counted from as many as that has
-pub resumes : (s : List ℕ) (ch from limit : ℕ) (r : Passed) → SkipsBelow s limit from r → ListFrom s from → (lead x y : ℕ) → lead ≡ (needle_of ch).lead
-    → x ≡ (lead + 255) % 256 → y ≡ (limit + 255) % 256 → from < r.at → y ≤ x → (k m j : ℕ) → m ≡ min r.count 65_536
-    → j ≡ min (k + m) 65_536 → Resumes s ch from k (record { at = r.at; count = j })
-resumes s ch from limit r g l lead x y e f i h o k m j a b =
-    let t = skips_from s limit from r g ch lead y x e i f h o in
-    record {
-      list = record { within = t.passes.within; well = skip_well s ch from r t l.well };
-      small = omega arith;
-      placed = skip_again s ch from r t l.well 65_536 k m j _ a b refl;
-    }
+pub resumes : (s : List ℕ) (ch limit : ℕ) (r : Passed) → SkipsBelow s limit r → well_formed s ≡ true → (lead : ℕ) → lead ≡ (needle_of ch).lead → Fits w8 lead
+    → limit ≤ lead → (k m j : ℕ) → m ≡ min r.count 65_536 → j ≡ min (k + m) 65_536 → Resumes s ch k (bytes_from s r.at) j
+resumes s ch limit r g v lead e f h k m j a b =
+    let t = skips_from s limit r g ch lead e h f in
+    record { well = skip_well s ch r t v; small = omega arith; placed = skip_again s ch r t v 65_536 k m j _ a b refl }
 
-pub resumed : (s : List ℕ) (ch from k : ℕ) (r : Passed) (f : Option ℕ) → Resumes s ch from k r
-    → f ≡ at_most 65_536 (place_from r.count ch (spelled (chars_from s r.at))) → f ≡ at_most 65_536 (place_from k ch (spelled (chars_from s from)))
-resumed s ch from k r f g h = h ∙ g.placed
+pub resumed : (s : List ℕ) (ch k : ℕ) (l : List ℕ) (n : ℕ) (f : Option ℕ) → Resumes s ch k l n
+    → f ≡ at_most 65_536 (place_from n ch (list_of l)) → f ≡ at_most 65_536 (place_from k ch (list_of s))
+resumed s ch k l n f g h = h ∙ g.placed
 
--- an entry after what was passed over is further on
-pub skip_less : (s : List ℕ) (p : Needle) (from : ℕ) (r : Passed) → Skips s p from r → {x : Entry} → x ≡ entry_at s r.at
-    → {start end : ℕ} {c : Cursor} → x ≡ entry.Range start end c → length s - c.at < length s - from
-skip_less s p from r g e q = let a = g.passes in let b = entry_range s r.at e q in omega arith
+-- an entry after what was passed over leaves less
+pub skip_less : (s : List ℕ) (at : ℕ) {x : Entry} → x ≡ entry_at (bytes_from s at) 0 → {start end : ℕ} {c : Cursor} → x ≡ entry.Range start end c
+    → length (bytes_from (bytes_from s at) c.at) < length s
+skip_less s at {x} e {start} {end} {c} q = let a = entry_range (bytes_from s at) 0 e q in omega (arith, rest_length s at, rest_length (bytes_from s at) c.at)
 
 -- a position that is cut is small
 pub capped : (k v : ℕ) → k ≡ min v 65_536 → k ≤ 65_537

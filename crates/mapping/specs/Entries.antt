@@ -5,7 +5,7 @@ use Rattle.std.specs.Prelude.{ℕ, zero, suc, ◌-◌, ◌≤◌, min, ◌≡◌
 use Rattle.characters.specs.declared.Step.{Step}
 use Rattle.characters.specs.declared.Step.TheVariants.{Character, IllFormed, End}
 use Rattle.characters.specs.Refusal.{need}
-use Rattle.characters.specs.Utf8.{is_surrogate, step_at, well_formed_from, well_formed}
+use Rattle.characters.specs.Utf8.{is_surrogate, step_at, well_formed}
 use Rattle.mapping.specs.declared.Entry.{Entry}
 use Rattle.mapping.specs.declared.Entry.TheVariants as entry
 use Rattle.mapping.specs.declared.Glyph.{Glyph}
@@ -65,11 +65,6 @@ unfoldable pub stop_refusal : Entry → ℕ → ℕ
 stop_refusal (entry.Range start end c) count = 7
 stop_refusal entry.IllFormed count = 7
 stop_refusal entry.End count = need (leb count 65_536) 8 0
-
--- a position of a mapping from which the rest is well-formed
-pub record ListFrom (mapping : List ℕ) (at : ℕ) : Type 0 where
-  pub within : at ≤ length mapping
-  pub well : well_formed_from mapping at ≡ true
 
 -- what refusals 7 and 8 leave: a well-formed mapping that "spells ≤ 65,536 characters"
 pub record WithinLimit (mapping : List ℕ) : Type 0 where

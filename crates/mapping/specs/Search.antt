@@ -1,14 +1,14 @@
 -- What the search over characters that are listed singly cites: lead bytes, the bytes by which a character is looked for, and where it
 -- cannot begin. Assumes nothing.
 -- Serves contracts: nothing here has to be believed.
-use Rattle.std.specs.Prelude.{ℕ, zero, suc, ◌+◌, ◌-◌, ◌/◌, ◌%◌, ◌<◌, ◌≤◌, ◌≡◌, List, Bool, true, false, not, cond, ◌&&◌, ◌||◌, length, get_or, ltb, eqb}
-use Rattle.characters.specs.Utf8.{is_continuation, chars_from}
+use Rattle.std.specs.Prelude.{ℕ, zero, suc, ◌+◌, ◌/◌, ◌%◌, ◌<◌, ◌≤◌, ◌≡◌, List, Bool, true, false, not, cond, ◌&&◌, ◌||◌, length, get_or, drop, ltb, eqb, IfSome}
+use Rattle.characters.specs.Utf8.{is_continuation, well_formed}
 use Rattle.mapping.specs.declared.search.Needle.{Needle}
 use Rattle.mapping.specs.declared.search.Block.{Block}
 use Rattle.mapping.specs.declared.search.Passed.{Passed}
 use Rattle.mapping.specs.declared.Start.{Start}
-use Rattle.mapping.specs.Entries.{entry_at, after_entry, at_most, ListFrom}
-use Rattle.mapping.specs.Mapping.{spelled, place_from}
+use Rattle.mapping.specs.Entries.{entry_at, after_entry, at_most}
+use Rattle.mapping.specs.Mapping.{list_of, place_from}
 
 -- a byte that does not continue a sequence
 unfoldable pub is_lead : ℕ → Bool
@@ -54,40 +54,39 @@ pub record OfHit (s : List ℕ) (p : Needle) (at r : ℕ) : Type 0 where
   pub most : r ≤ 64
   pub clear : (j : ℕ) → j + r < 64 → may_begin_at s p (at + j) ≡ false
 
--- every byte from `from` up to r is below `limit` and not 00, and r counts the lead bytes there
-pub record Below (s : List ℕ) (limit from : ℕ) (r : Passed) : Type 0 where
-  pub forward : from ≤ r.at
+-- every byte up to r is below `limit` and not 00, and r counts the lead bytes there
+pub record Below (s : List ℕ) (limit : ℕ) (r : Passed) : Type 0 where
   pub within : r.at ≤ length s
-  pub counted : r.count ≡ leads s from (r.at - from)
-  pub low : (q : ℕ) → from ≤ q → q < r.at → before (get_or s q 0) < before limit
+  pub counted : r.count ≡ leads s 0 r.at
+  pub low : (q : ℕ) → q < r.at → before (get_or s q 0) < before limit
 
--- the same, up to the end or to a lead byte, unless there are none
-pub record SkipsBelow (s : List ℕ) (limit from : ℕ) (r : Passed) : Type 0 where
-  pub below : Below s limit from r
-  pub boundary : from < r.at → r.at < length s → is_lead (get_or s r.at 0) ≡ true
-
--- where the search starts: the first entry, and bytes after it that are below `lead`
-pub record StartOf (s : List ℕ) (x : Start) : Type 0 where
-  pub first : x.first ≡ entry_at s 0
-  pub passed : SkipsBelow s x.lead (after_entry x.first) x.passed
-
--- nothing begins from `from` up to r, and r counts the lead bytes there
-pub record Passes (s : List ℕ) (p : Needle) (from : ℕ) (r : Passed) : Type 0 where
-  pub forward : from ≤ r.at
-  pub within : r.at ≤ length s
-  pub counted : r.count ≡ leads s from (r.at - from)
-  pub clear : (q : ℕ) → from ≤ q → q < r.at → may_begin_at s p q ≡ false
-
--- the same, up to the end or to a lead byte: no sequence goes across
-pub record Skips (s : List ℕ) (p : Needle) (from : ℕ) (r : Passed) : Type 0 where
-  pub passes : Passes s p from r
+-- the same, up to the end or to a lead byte, where a sequence of several bytes begins with the limit
+pub record SkipsBelow (s : List ℕ) (limit : ℕ) (r : Passed) : Type 0 where
+  pub several : 0xC0 ≤ limit
+  pub below : Below s limit r
   pub boundary : r.at < length s → is_lead (get_or s r.at 0) ≡ true
 
--- where a character's position from `from` on, counted from k, is its position from r on, counted from what r counts
-pub record Resumes (s : List ℕ) (ch from k : ℕ) (r : Passed) : Type 0 where
-  pub list : ListFrom s r.at
-  pub small : r.count ≤ 65_536
-  pub placed : at_most 65_536 (place_from r.count ch (spelled (chars_from s r.at))) ≡ at_most 65_536 (place_from k ch (spelled (chars_from s from)))
+-- where the search starts: the first entry, and bytes after it that are below `lead`, if any are passed over
+pub record StartOf (s : List ℕ) (x : Start) : Type 0 where
+  pub first : x.first ≡ entry_at s 0
+  pub below : IfSome x.below (λ b. SkipsBelow (drop (after_entry x.first) s) b.lead b.passed)
+
+-- nothing begins up to r, and r counts the lead bytes there
+pub record Passes (s : List ℕ) (p : Needle) (r : Passed) : Type 0 where
+  pub within : r.at ≤ length s
+  pub counted : r.count ≡ leads s 0 r.at
+  pub clear : (q : ℕ) → q < r.at → may_begin_at s p q ≡ false
+
+-- the same, up to the end or to a lead byte: no sequence goes across
+pub record Skips (s : List ℕ) (p : Needle) (r : Passed) : Type 0 where
+  pub passes : Passes s p r
+  pub boundary : r.at < length s → is_lead (get_or s r.at 0) ≡ true
+
+-- a rest in which a character's position, counted from n, is its position in all bytes, counted from k
+pub record Resumes (s : List ℕ) (ch k : ℕ) (rest : List ℕ) (n : ℕ) : Type 0 where
+  pub well : well_formed rest ≡ true
+  pub small : n ≤ 65_536
+  pub placed : at_most 65_536 (place_from n ch (list_of rest)) ≡ at_most 65_536 (place_from k ch (list_of s))
 
 -- the distances stay within a sequence, and the lead byte is one
 pub record IsNeedle (p : Needle) : Type 0 where

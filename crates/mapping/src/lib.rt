@@ -1,11 +1,11 @@
 // A mapping: the entries that its bytes spell, the index of a character, whether it is listed, and the refusals 7 and 8.
 #![tactic(auto)]
 
-ghost use Rattle.std.specs.Prelude.{◌≡◌, ◌≤◌, length};
+ghost use Rattle.std.specs.Prelude.{◌≡◌, ◌≤◌, true, length, IfSome};
 ghost use Rattle.refusals.specs.Numbers.{refusal_of};
-ghost use Rattle.characters.specs.Utf8.{chars_from};
-ghost use Rattle.mapping.specs.Entries.{entry_at, after_entry, stop_of, in_range, scalars_below, at_most, glyph_at, stop_refusal, ListFrom, WithinLimit};
-ghost use Rattle.mapping.specs.Mapping.{from_to, spelled, place_from, glyph, contains, refusal};
+ghost use Rattle.characters.specs.Utf8.{well_formed};
+ghost use Rattle.mapping.specs.Entries.{entry_at, stop_of, in_range, scalars_below, at_most, glyph_at, stop_refusal, WithinLimit};
+ghost use Rattle.mapping.specs.Mapping.{from_to, list_of, place_from, glyph, contains, refusal};
 ghost use Rattle.mapping.specs.Search.{SkipsBelow, StartOf, Resumes};
 
 use characters::{Cursor, Step};
@@ -31,13 +31,25 @@ pub struct Glyph {
     pub listed: bool,
 }
 
-// Where the search in a mapping starts for the characters of a text: the mapping's first entry, and what is passed over after it
-// for a character whose sequence begins with `lead` or a higher byte. No Option: with nothing passed over any `lead` serves, and 0 costs no test.
-#[derive(Clone, Copy)]
-pub struct Start {
-    pub first: Entry,
+// The bytes of a mapping that the check accepts, which are lent.
+#[derive(Clone, Copy, Debug, PartialEq, Eq)]
+pub struct Mapping<'a> {
+    pub bytes: &'a [u8],
+    ghost within_limit: { WithinLimit bytes.now },
+}
+
+// What is passed over for a character whose sequence begins with `lead` or a higher byte.
+#[derive(Clone, Copy, Debug, PartialEq, Eq)]
+pub struct PassedBelow {
     pub lead: u8,
     pub passed: Passed,
+}
+
+// Where the search in a mapping starts for the characters of a text: the mapping's first entry, and what is passed over after it, if anything.
+#[derive(Clone, Copy, Debug, PartialEq, Eq)]
+pub struct Start {
+    pub first: Entry,
+    pub below: Option<PassedBelow>,
 }
 
 // How many characters stand below a number.
@@ -100,31 +112,21 @@ fn entry_at(mapping: &[u8], c: Cursor) -> Entry
     Entry::Range(start, end, last)
 }
 
-// The position after an entry, or 0 where there is none.
-fn after_entry(entry: Entry) -> usize
-    ensures { result ≡ after_entry entry }
-{
-    match entry {
-        Entry::Range(_, _, after) => after.at,
-        _ => 0,
-    }
-}
-
-// The first position of a character in the list from a cursor on, counted from `count`, or 65,536 for every position from there on.
-// The loop has a cursor and no iterator, since each entry says where the next begins; so each turn would make a type anew that held
-// `ListFrom`, and the fact stays a clause.
-fn find(mapping: &[u8], from: Cursor, count: u64, ch: u32) -> Option<u32>
-    requires list_from { ListFrom mapping.now from.at }
+// The first position of a character in the list that the bytes spell, counted from `count`, or 65,536 for every position from there on. No
+// iterator of entries: between two of them bytes may be passed over in blocks.
+fn find(mapping: &[u8], count: u64, ch: u32) -> Option<u32>
+    requires well { well_formed mapping.now ≡ true }
     requires count_bound { count ≤ 65_536 }
-    ensures { result ≡ at_most 65_536 (place_from count ch (spelled (chars_from mapping.now from.at))) }
+    ensures { result ≡ at_most 65_536 (place_from count ch (list_of mapping.now)) }
 {
-    let mut c = from;
+    let mut rest = mapping;
     let mut k = count;
     loop {
-        let passed = search::skip(mapping, c.at, ch);
+        let passed = search::skip(rest, ch);
         let more = passed.count.min(65536);
         k = (k + more).min(65536);
-        let Entry::Range(start, end, after) = entry_at(mapping, Cursor { at: passed.at }) else {
+        rest = &rest[passed.at..];
+        let Entry::Range(start, end, after) = entry_at(rest, Cursor { at: 0 }) else {
             return None;
         };
         if in_range(start, end, ch) {
@@ -134,61 +136,37 @@ fn find(mapping: &[u8], from: Cursor, count: u64, ch: u32) -> Option<u32>
         }
         let len = range_len(start, end);
         k = (k + len).min(65536);
-        c = after;
+        rest = &rest[after.at..];
     }
 }
 
-// From where on ch is looked for after the first entry, and how many characters are counted by there if `count` are by `from`: after
-// what is passed over if the sequence of ch begins with the start's lead byte or a higher one.
-fn resume(mapping: &[u8], start: Start, from: usize, count: u64, ch: u32) -> Passed
-    requires list_from { ListFrom mapping.now from }
-    requires skips_below { SkipsBelow mapping.now start.lead from start.passed }
-    requires count_bound { count ≤ 65_536 }
-    ensures { Resumes mapping.now ch from count result }
+// What is passed over after the first entry for the characters of a text, if a block stands there: only then is the text looked at.
+fn passed_below(rest: &[u8], text: &[u8]) -> Option<PassedBelow>
+    ensures { IfSome result (λ below. SkipsBelow rest.now below.lead below.passed) }
 {
-    let passed = start.passed;
-    if passed.at <= from {
-        return Passed { at: from, count };
-    }
-    if search::lead_of(ch).wrapping_sub(1) < start.lead.wrapping_sub(1) {
-        return Passed { at: from, count };
-    }
-    let more = passed.count.min(65536);
-    let counted = (count + more).min(65536);
-    Passed {
-        at: passed.at,
-        count: counted,
-    }
-}
-
-// Where the search in a mapping starts for the characters of a text. The text is looked at only if the mapping goes on for a block
-// after its first entry.
-pub fn start_of(mapping: &[u8], text: &[u8]) -> Start
-    ensures { StartOf mapping.now result }
-{
-    let first = entry_at(mapping, Cursor { at: 0 });
-    let at = after_entry(first);
-    let nothing = Start {
-        first,
-        lead: 0,
-        passed: Passed { at, count: 0 },
-    };
-    let rest = &mapping[at..];
     if rest.len() < 128 {
-        return nothing;
+        return None;
     }
-    let Some(lead) = search::least_lead(text) else {
-        return nothing;
-    };
-    let below = search::pass_below(rest, lead);
-    let passed = Passed {
-        at: at + below.at,
-        count: below.count,
-    };
-    Start {
-        first,
-        lead,
-        passed,
+    let lead = search::least_lead(text)?;
+    let passed = search::pass_below(rest, lead);
+    Some(PassedBelow { lead, passed })
+}
+
+// The rest of the bytes after the first entry in which ch is looked for, and how many characters are counted by there if `count` are before:
+// after what is passed over, if the sequence of ch begins with its lead byte or a higher one.
+fn resume(rest: &[u8], below: Option<PassedBelow>, count: u64, ch: u32) -> (&[u8], u64)
+    requires well { well_formed rest.now ≡ true }
+    requires skips_below { IfSome below (λ below. SkipsBelow rest.now below.lead below.passed) }
+    requires count_bound { count ≤ 65_536 }
+    ensures { Resumes rest.now ch count result.0.now result.1 }
+{
+    match below {
+        Some(below) if below.lead <= search::lead_of(ch) => {
+            let more = below.passed.count.min(65536);
+            let counted = (count + more).min(65536);
+            (&rest[below.passed.at..], counted)
+        }
+        _ => (rest, count),
     }
 }
 
@@ -202,43 +180,53 @@ fn glyph_at(place: Option<u32>, replacement: u32) -> Glyph
     }
 }
 
-// The glyph of a character by a mapping that the check accepts: its first position, else the replacement. Where the search starts is
-// given, so that a character of the first range is found without a step over the bytes.
-// `WithinLimit` is a clause and no type: a font of the crate line holds the fact beside the bytes of its atlas, and lends its mapping.
-pub fn glyph_with(mapping: &[u8], start: Start, replacement: u32, ch: u32) -> Glyph
-    requires within_limit { WithinLimit mapping.now }
-    requires start_of { StartOf mapping.now start }
-    ensures { result ≡ glyph mapping.now replacement ch }
-{
-    let Entry::Range(low, high, after) = start.first else {
-        return glyph_at(None, replacement);
-    };
-    if in_range(low, high, ch) {
-        let through = range_len(low, ch);
-        let index = (through - 1) as u32;
-        return glyph_at(Some(index), replacement);
+impl<'a> Mapping<'a> {
+    // Where the search in the mapping starts for the characters of a text.
+    pub fn start_of(&self, text: &[u8]) -> Start
+        ensures { StartOf self.now.bytes.now result }
+    {
+        let first = entry_at(self.bytes, Cursor { at: 0 });
+        let Entry::Range(_, _, after) = first else {
+            return Start { first, below: None };
+        };
+        let below = passed_below(&self.bytes[after.at..], text);
+        Start { first, below }
     }
-    let len = range_len(low, high).min(65536);
-    let from = resume(mapping, start, after.at, len, ch);
-    let place = find(mapping, Cursor { at: from.at }, from.count, ch);
-    glyph_at(place, replacement)
-}
 
-// The same, for a single character.
-pub fn glyph_of(mapping: &[u8], replacement: u32, ch: u32) -> Glyph
-    requires { WithinLimit mapping.now }
-    ensures { result ≡ glyph mapping.now replacement ch }
-{
-    let place = find(mapping, Cursor { at: 0 }, 0, ch);
-    glyph_at(place, replacement)
-}
+    // The glyph of a character: its first position, else the replacement. Where the search starts is given, so that a character of the first
+    // range is found without a step over the bytes.
+    pub fn glyph_with(&self, start: Start, replacement: u32, ch: u32) -> Glyph
+        requires { StartOf self.now.bytes.now start }
+        ensures { result ≡ glyph self.now.bytes.now replacement ch }
+    {
+        let Entry::Range(low, high, after) = start.first else {
+            return glyph_at(None, replacement);
+        };
+        if in_range(low, high, ch) {
+            let through = range_len(low, ch);
+            let index = (through - 1) as u32;
+            return glyph_at(Some(index), replacement);
+        }
+        let len = range_len(low, high).min(65536);
+        let (rest, count) = resume(&self.bytes[after.at..], start.below, len, ch);
+        let place = find(rest, count, ch);
+        glyph_at(place, replacement)
+    }
 
-// Whether a mapping that the check accepts lists a character.
-pub fn contains(mapping: &[u8], ch: u32) -> bool
-    requires { WithinLimit mapping.now }
-    ensures { result ≡ contains mapping.now ch }
-{
-    glyph_of(mapping, 0, ch).listed
+    // The same, for a single character.
+    pub fn glyph_of(&self, replacement: u32, ch: u32) -> Glyph
+        ensures { result ≡ glyph self.now.bytes.now replacement ch }
+    {
+        let place = find(self.bytes, 0, ch);
+        glyph_at(place, replacement)
+    }
+
+    // Whether the mapping lists a character.
+    pub fn contains(&self, ch: u32) -> bool
+        ensures { result ≡ contains self.now.bytes.now ch }
+    {
+        self.glyph_of(0, ch).listed
+    }
 }
 
 // The refusal where a mapping's entries stop, after so many characters.
@@ -254,8 +242,8 @@ fn stop_refusal(stop: Entry, count: u64) -> Result<(), Refusal>
     Ok(())
 }
 
-// Refuses an ill-formed mapping, and one that spells more than 65,536 characters. The loop has a cursor and no iterator, since each entry
-// says where the next begins.
+// Refuses an ill-formed mapping, and one that spells more than 65,536 characters. The walk is over cursors, each entry and the next one taken
+// by `let else`: docs/DECISIONS.md, "Forms that were asked for", names this place.
 pub fn check_mapping(mapping: &[u8]) -> Result<(), Refusal>
     ensures { refusal_of result ≡ refusal mapping.now }
 {

@@ -1,13 +1,13 @@
 // The search over characters that a mapping lists singly: bytes with which neither a range nor the character looked for begins are
 // passed over in blocks, and a character is counted for each lead byte among them.
-ghost use Rattle.std.specs.Prelude.{◌≡◌, ◌+◌, ◌<◌, ◌≤◌, length, get_or, IfSome};
+ghost use Rattle.std.specs.Prelude.{◌≡◌, ◌<◌, ◌≤◌, true, length, IfSome};
 ghost use Rattle.std.specs.List.{position_or_len};
-ghost use Rattle.mapping.specs.Entries.{ListFrom};
+ghost use Rattle.characters.specs.Utf8.{well_formed};
 ghost use Rattle.mapping.specs.Search.{is_lead, leads, needle_of, may_begin, may_begin_at, OfBlock, OfHit, Below, SkipsBelow, Passes, Skips, IsNeedle};
 
 // The bytes by which a character is looked for: the first of its UTF-8 sequence, the second of four, the last but one and the last,
 // with how far on from the first they stand. One that a sequence is too short for is the first again.
-#[derive(Clone, Copy)]
+#[derive(Clone, Copy, Debug, PartialEq, Eq)]
 pub struct Needle {
     pub lead: u8,
     pub inner: u8,
@@ -19,21 +19,21 @@ pub struct Needle {
 }
 
 // The bytes by which some character is looked for: the functions that search with them need the facts of `IsNeedle`.
-#[derive(Clone, Copy)]
+#[derive(Clone, Copy, Debug, PartialEq, Eq)]
 struct Sought {
     needle: Needle,
     ghost is_needle: { IsNeedle needle },
 }
 
 // Of 128 bytes: the greatest, where 00 comes after FF and each counts one less, and how many are lead bytes.
-#[derive(Clone, Copy)]
+#[derive(Clone, Copy, Debug, PartialEq, Eq)]
 pub struct Block {
     pub most: u8,
     pub leads: u8,
 }
 
 // The position after bytes that were passed over, and how many of them are lead bytes.
-#[derive(Clone, Copy)]
+#[derive(Clone, Copy, Debug, PartialEq, Eq)]
 pub struct Passed {
     pub at: usize,
     pub count: u64,
@@ -112,16 +112,7 @@ pub fn lead_of(ch: u32) -> u8
 pub fn least_lead(text: &[u8]) -> Option<u8>
     ensures { IfSome result (λ lead. 0xC0 ≤ lead) }
 {
-    let mut least: u8 = 255;
-    for b in text {
-        if 0xC0 <= *b {
-            least = least.min(*b);
-        }
-    }
-    if least == 255 {
-        return None;
-    }
-    Some(least)
+    text.iter().copied().filter(|b| 0xC0 <= *b).min()
 }
 
 // Whether a range or the character may begin with the byte a.
@@ -162,7 +153,7 @@ fn leads_of(bytes: &[u8], n: u8) -> u8
 
 // Passes over blocks of bytes that are below `lead`, and not 00.
 fn pass_blocks(bytes: &[u8], lead: u8) -> Passed
-    ensures { Below bytes.now lead 0 result }
+    ensures { Below bytes.now lead result }
 {
     let blocks = bytes.len() / 128;
     let mut count: u64 = 0;
@@ -193,7 +184,7 @@ fn before_lead(bytes: &[u8]) -> usize
 // Passes over the same blocks, and on to the next lead byte.
 pub fn pass_below(bytes: &[u8], lead: u8) -> Passed
     requires { 0xC0 ≤ lead }
-    ensures { SkipsBelow bytes.now lead 0 result }
+    ensures { SkipsBelow bytes.now lead result }
 {
     let blocks = pass_blocks(bytes, lead);
     Passed {
@@ -202,22 +193,15 @@ pub fn pass_below(bytes: &[u8], lead: u8) -> Passed
     }
 }
 
-// The byte that stands `by` bytes on, or 0 past the end.
-fn byte_on(rest: &[u8], by: usize) -> u8
-    ensures { result ≡ get_or rest.now by 0 }
-{
-    rest.get(by).copied().unwrap_or(0)
-}
-
 // Whether a range or the character may begin with the first of the bytes.
 fn begins(rest: &[u8], needle: Needle) -> bool
     requires { 0 < length rest.now }
     ensures { result ≡ may_begin_at rest.now needle 0 }
 {
     let a = rest[0];
-    let b = byte_on(rest, needle.near);
-    let c = byte_on(rest, needle.mid);
-    let d = byte_on(rest, needle.end);
+    let b = rest.get(needle.near).copied().unwrap_or(0);
+    let c = rest.get(needle.mid).copied().unwrap_or(0);
+    let d = rest.get(needle.end).copied().unwrap_or(0);
     may_begin(needle, a, b, c, d)
 }
 
@@ -247,7 +231,7 @@ impl Sought {
 
     // Passes over bytes with which neither a range nor the character begins.
     fn pass(self, bytes: &[u8]) -> Passed
-        ensures { Passes bytes.now self.needle 0 result }
+        ensures { Passes bytes.now self.needle result }
     {
         let blocks = pass_blocks(bytes, self.needle.lead);
         let hits = (bytes.len() - blocks.at).saturating_sub(3) / 64;
@@ -273,7 +257,7 @@ impl Sought {
 
     // The same byte by byte, to where a range or the character may begin, or to the end.
     fn pass_bytes(self, bytes: &[u8]) -> Passed
-        ensures { Skips bytes.now self.needle 0 result }
+        ensures { Skips bytes.now self.needle result }
     {
         let mut count: u64 = 0;
         for at in 0..bytes.len() {
@@ -298,13 +282,12 @@ fn is_near(rest: &[u8]) -> bool {
 }
 
 // Passes over singly listed characters other than ch.
-pub fn skip(mapping: &[u8], from: usize, ch: u32) -> Passed
-    requires { ListFrom mapping.now from }
-    ensures { Skips mapping.now (needle_of ch) from result }
+pub fn skip(rest: &[u8], ch: u32) -> Passed
+    requires { well_formed rest.now ≡ true }
+    ensures { Skips rest.now (needle_of ch) result }
 {
-    let rest = &mapping[from..];
     if is_near(rest) {
-        return Passed { at: from, count: 0 };
+        return Passed { at: 0, count: 0 };
     }
     let sought = Sought {
         needle: needle_of(ch),
@@ -312,7 +295,7 @@ pub fn skip(mapping: &[u8], from: usize, ch: u32) -> Passed
     let blocks = sought.pass(rest);
     let bytes = sought.pass_bytes(&rest[blocks.at..]);
     Passed {
-        at: from + (blocks.at + bytes.at),
+        at: blocks.at + bytes.at,
         count: blocks.count + bytes.count,
     }
 }

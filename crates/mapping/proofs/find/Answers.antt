@@ -1,5 +1,5 @@
--- The invariant: the position in the rest, counted on from what was passed, is the position from the first cursor on. Assumes nothing.
-use Rattle.mapping.proofs.Places.{entry_within, count_fits, found_fits, found_pos, found_at, find_again, walk_again}
+-- The invariant: the position in the rest, counted on from what was passed, is the position in all bytes. Assumes nothing.
+use Rattle.mapping.proofs.Places.{entry_within, count_fits, found_fits, found_pos, found_at, find_again, rest_well}
 use Rattle.mapping.proofs.Skipped.{skip_well, skip_again, skip_stopped, skip_less, capped}
 use borrow.Author.Rules.{rules}
 use Rattle.mapping.proofs.find.Goals as goal
@@ -19,8 +19,14 @@ returns-then-in_range c = search (found_at, skip_again)
 pub overflow_add-k-in-loop-start : goal.overflow_add-k-in-loop-start
 overflow_add-k-in-loop-start c = search (count_fits, capped)
 
+pub slice_bounds-rest-count-in-loop-start : goal.slice_bounds-rest-count-in-loop-start
+slice_bounds-rest-count-in-loop-start c = search entry_within
+
+pub slice_bounds-rest-start-in-loop-start : goal.slice_bounds-rest-start-in-loop-start
+slice_bounds-rest-start-in-loop-start c = search entry_within
+
 pub loop-start-smaller : goal.loop-start-smaller
 loop-start-smaller c = search skip_less
 
 pub loop-start-preserved : goal.loop-start-preserved
-loop-start-preserved c = (search entry_within, search rules, search (walk_again, skip_well), search (find_again, skip_again))
+loop-start-preserved c = (search rules, search (rest_well, skip_well), search (find_again, skip_again))

@@ -2,5 +2,5 @@
 use Rattle.mapping.proofs.Skipped.{resumes}
 use Rattle.mapping.proofs.resume.Goals as goal
 
-pub returns : goal.returns
-returns c = search resumes
+pub returns-in-Some : goal.returns-in-Some
+returns-in-Some c = let g = rw c.in-Some.is at c.requires.skips_below in search resumes

@@ -3,7 +3,7 @@ use native.Mathlib.Omega.{arith}
 use mathlib.Core.Path.{ap, ◌∙◌}
 use Rattle.characters.specs.Characters.{chars_left}
 use Rattle.characters.proofs.Folds.{length-chars}
-use Rattle.line.proofs.Glyphs.{drawn_start, drawn_step, drawn_end, character_limits, walked_all, met_all}
+use Rattle.line.proofs.Glyphs.{drawn_start, drawn_step, drawn_end, character_limits, replaced_fits, walked_all, met_all}
 use Rattle.line.proofs.PreparedLine.draw_glyphs.Goals as goal
 
 pub loop-ch-init : goal.loop-ch-init
@@ -16,6 +16,11 @@ pub draw_character-replaced-requires-clause-character_limits : goal.draw_charact
 draw_character-replaced-requires-clause-character_limits c =
     let n = length-chars c.args.self.now.line.text.now in
     character_limits _ _ _ _ _ _ _ _ _ _ _ _ c.loop-ch.invariant c.in-Some.ensures.steps (omega (arith, c.requires.place_limits.text_short)) c.requires.place_limits.near_x
+
+pub overflow_add-replaced : goal.overflow_add-replaced
+overflow_add-replaced c =
+    let n = length-chars c.args.self.now.line.text.now in
+    replaced_fits _ _ _ _ _ _ _ _ _ _ _ _ c.loop-ch.invariant c.in-Some.ensures.steps _ c.draw_character-replaced.ensures.value (omega (arith, c.requires.place_limits.text_short))
 
 pub overflow_add-x : goal.overflow_add-x
 overflow_add-x c =
@@ -33,8 +38,8 @@ loop-ch-preserved c = drawn_step _ _ _ _ _ _ _ _ _ _ _ _ c.loop-ch.invariant c.i
 pub returns-clause-painted : goal.returns-clause-painted
 returns-clause-painted c = drawn_end _ _ _ _ _ _ _ _ _ _ _ _ c.loop-ch.invariant c.in-None.ensures.steps.0
 
-pub returns-clause-next_value : goal.returns-clause-next_value
-returns-clause-next_value c = walked_all _ _ _ _ _ _ _ _ _ _ _ _ c.loop-ch.invariant c.in-None.ensures.steps.0
+pub returns-clause-end_value : goal.returns-clause-end_value
+returns-clause-end_value c = walked_all _ _ _ _ _ _ _ _ _ _ _ _ c.loop-ch.invariant c.in-None.ensures.steps.0
 
 pub returns-clause-replaced_value : goal.returns-clause-replaced_value
 returns-clause-replaced_value c = met_all _ _ _ _ _ _ _ _ _ _ _ _ c.loop-ch.invariant c.in-None.ensures.steps.0

@@ -4,4 +4,4 @@ use Rattle.mapping.specs.Search.{Below}
 use Rattle.mapping.proofs.search.pass_blocks.Given as goal
 
 abbrev pub invariant-loop-k : goal.invariant-loop-k
-invariant-loop-k l = Below l.bytes l.lead 0 (record { at = 128 * l.k; count = l.count })
+invariant-loop-k l = Below l.bytes l.lead (record { at = 128 * l.k; count = l.count })

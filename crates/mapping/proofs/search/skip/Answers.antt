@@ -10,8 +10,8 @@ returns-then-is_near c = search skips_none
 pub invariant_of-sought : goal.invariant_of-sought
 invariant_of-sought c = record { is_needle = search needle_found }
 
-pub overflow_add-result-3 : goal.overflow_add-result-3
-overflow_add-result-3 c = search count_fits
+pub overflow_add-result-2 : goal.overflow_add-result-2
+overflow_add-result-2 c = search count_fits
 
 pub returns : goal.returns
 returns c = search skips_needle
