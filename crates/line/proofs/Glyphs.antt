@@ -4,8 +4,6 @@ use native.Mathlib.Omega.{arith}
 use mathlib.Core.Path.{◌≡◌, refl, sym, ap, ◌∙◌}
 use mathlib.Core.List.{List, [], ◌∷◌, map}
 use lib.ListN.{length}
-use mir.Val.{Fits}
-use mir.Syntax.{w32}
 use Rattle.geometry.specs.declared.canvas.Frame.{Frame}
 use Rattle.geometry.specs.Layer.{Layer, transparent}
 use Rattle.geometry.specs.Painted.{Painted}
@@ -49,7 +47,7 @@ module _ (f : Font) (s : MonoTextStyle) (columns : Columns) (cs : List ℕ) (lef
   module _ (gap : ℕ) (l : List ℕ) (x replaced : ℕ) (frame : Frame) (d : Drawn gap l x replaced frame) where
     module _ {ch : ℕ} {l' : List ℕ} (e : l ≡ ch ∷ l') where
       pub drawn_step : (n : ℕ) (next : Frame) → FontLimits f.mono → Painted frame (character f s gap (glyph_index f ch) x top) next
-          → n ≡ met_character columns f.mapping (gap + character_width f.mono) ch x → Drawn (spacing f.mono) l' (x + gap + character_width f.mono) (replaced + n) next
+          → n ≡ replaced + met_character columns f.mapping (gap + character_width f.mono) ch x → Drawn (spacing f.mono) l' (x + gap + character_width f.mono) n next
       unfolding glyphs
       drawn_step n next limits p k =
           let i = met_small columns f.mapping (gap + character_width f.mono) ch x in
@@ -65,11 +63,8 @@ module _ (f : Font) (s : MonoTextStyle) (columns : Columns) (cs : List ℕ) (lef
           }
 
       -- what the next character needs
-      pub character_limits : length cs ≤ 65_536 → left ≤ 8_388_608 → CharacterLimits gap x
-      character_limits short near = record { gap_small = d.gap_small; near_x = omega (arith, d.near) }
-
-      pub replaced_fits : (n : ℕ) → n ≡ met_character columns f.mapping (gap + character_width f.mono) ch x → length cs ≤ 65_536 → Fits w32 (replaced + n)
-      replaced_fits n k short = let i = met_small columns f.mapping (gap + character_width f.mono) ch x in omega (arith, d.few, ap length e)
+      pub character_limits : length cs ≤ 65_536 → left ≤ 8_388_608 → CharacterLimits gap x replaced
+      character_limits short near = record { gap_small = d.gap_small; near_x = omega (arith, d.near); few = omega (arith, d.few) }
 
     -- the walk ends where the characters end
     module _ (e : l ≡ []) where

@@ -1,7 +1,7 @@
 -- What the functions that draw a line paint, in the form in which their proofs have the facts. Assumes nothing.
 use Prim.Native.Nat.{ℕ, ◌+◌, ◌-◌, ◌*◌}
 use native.Mathlib.Omega.{arith}
-use mathlib.Core.Path.{◌≡◌, refl, sym, ◌∙◌}
+use mathlib.Core.Path.{◌≡◌, refl, sym, ◌∙◌, ap, subst}
 use mathlib.Core.Bool.{Bool, true, false, cond, ◌||◌, false≢true}
 use mathlib.Mathlib.Data.Bool.Basic.{or-eq-false-eq-eq-false-and-eq-false}
 use mathlib.Core.List.{List}
@@ -40,13 +40,16 @@ module _ (t : DrawTarget) (f : Font) (s : MonoTextStyle) (gap x top : ℕ) (xs :
       paint-disjoint t area (character f s gap i x top) xs (λ c r grey o. character_out c r f s gap i x top grey o) (columns_disjoint t.clip_area area (beside_disjoint t.clip_area c x (gap + character_width f.mono) covers (sym e ∙ h)))
 
 -- a gap and a glyph painted in turn
-pub character_painted : (f : Font) (s : MonoTextStyle) (gap x top ch : ℕ) (bytes : List ℕ) (a : Atlas) (g : Glyph) (before middle after : Frame) → bytes ≡ f.atlas → a ≡ f.mono.atlas
-    → g ≡ Mapping.glyph f.mapping f.mono.replacement_index ch
-    → Painted before (filled (rectangle x top gap (character_height f.mono)) (background_color s)) middle
-    → Painted middle (glyph bytes a (text_color s) (background_color s) g.index (x + gap) top) after
-    → Painted before (character f s gap (glyph_index f ch) x top) after
+pub character_painted : (f : Font) (s : MonoTextStyle) (gap : Rectangle) (ch : ℕ) (bytes : List ℕ) (a : Atlas) (g : Glyph) (before middle after : Frame) → gap.height ≡ character_height f.mono
+    → bytes ≡ f.atlas → a ≡ f.mono.atlas → g ≡ Mapping.glyph f.mapping f.mono.replacement_index ch
+    → Painted before (filled gap (background_color s)) middle
+    → Painted middle (glyph bytes a (text_color s) (background_color s) g.index (gap.left + gap.width) gap.top) after
+    → Painted before (character f s gap.width (glyph_index f ch) gap.left gap.top) after
 unfolding character
-character_painted f s gap x top ch bytes a g before middle after eb ea eg p q = painted_then before _ _ middle after p (rw (eb, ea, eg) at q)
+character_painted f s gap ch bytes a g before middle after eh eb ea eg p q =
+    let area : gap ≡ rectangle gap.left gap.top gap.width (character_height f.mono) = ap (λ (h : ℕ). rectangle gap.left gap.top gap.width h) eh in
+    let first : Painted before (filled (rectangle gap.left gap.top gap.width (character_height f.mono)) (background_color s)) middle = subst (λ (r : Rectangle). Painted before (filled r (background_color s)) middle) area p in
+    painted_then before _ _ middle after first (rw (eb, ea, eg) at q)
 
 module _ (m : MonoFont) (s : MonoTextStyle) (width x top : ℕ) (before middle after : Frame) where
   pub decorations_painted : (first second : Option ℕ) → first ≡ to_color s s.strikethrough_color → second ≡ to_color s s.underline_color

@@ -81,9 +81,9 @@ beside_disjoint clip c x width k h = by (ltb (x + width) c.first) (leb c.end x) 
 
 -- ---- a character that is looked up
 
-pub met_beside : (c : Columns) (mapping : List ℕ) (width ch x : ℕ) (t : Bool) → t ≡ is_beside c x width → t ≡ true → 0 ≡ met_character c mapping width ch x
+pub met_beside : (c : Columns) (mapping : List ℕ) (width ch x n : ℕ) (t : Bool) → t ≡ is_beside c x width → t ≡ true → n ≡ n + met_character c mapping width ch x
 unfolding met_character
-met_beside c mapping width ch x t e h = rw (← e, h)
+met_beside c mapping width ch x n t e h = rw (← e, h) (omega arith)
 
 pub met_small : (c : Columns) (mapping : List ℕ) (width ch x : ℕ) → met_character c mapping width ch x ≤ 1
 unfolding met_character
@@ -95,11 +95,11 @@ met_small c mapping width ch x = by (is_beside c x width) (contains mapping ch)
     by false false = omega arith
 
 -- and counted, if it is not listed
-pub count_met : (c : Columns) (mapping : List ℕ) (width replacement ch x n : ℕ) (g : Glyph) (t : Bool) → t ≡ is_beside c x width → t ≡ false → g ≡ glyph mapping replacement ch
-    → n ≡ from_bool (not g.listed) → n ≡ met_character c mapping width ch x
+pub count_met : (c : Columns) (mapping : List ℕ) (width replacement ch x n more : ℕ) (g : Glyph) (t : Bool) → t ≡ is_beside c x width → t ≡ false → g ≡ glyph mapping replacement ch
+    → more ≡ from_bool (not g.listed) → n + more ≡ n + met_character c mapping width ch x
 unfolding met_character
-count_met c mapping width replacement ch x n g t e h eg em =
-    em ∙ by g.listed ∙ rw (eg, ← e, h)
+count_met c mapping width replacement ch x n more g t e h eg em =
+    ap (λ (k : ℕ). n + k) (em ∙ by g.listed ∙ rw (eg, ← e, h))
   where
     by : (u : Bool) → from_bool (not u) ≡ cond u 0 1
     by true = refl

@@ -29,10 +29,11 @@ pub record PlaceLimits (n x top : ℕ) : Type 0 where
   pub near_x : x ≤ 8_388_608
   pub near_top : top ≤ 8_388_608
 
--- a character after a gap, from x on
-pub record CharacterLimits (gap x : ℕ) : Type 0 where
+-- a character after a gap, from x on, when so many are counted
+pub record CharacterLimits (gap x count : ℕ) : Type 0 where
   pub gap_small : gap ≤ 64
   pub near_x : x ≤ 16_777_216
+  pub few : count ≤ 65_536
 
 -- a clip
 pub record ClipLimit (clip : Rectangle) : Type 0 where

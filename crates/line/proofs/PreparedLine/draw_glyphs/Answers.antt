@@ -3,7 +3,7 @@ use native.Mathlib.Omega.{arith}
 use mathlib.Core.Path.{ap, ◌∙◌}
 use Rattle.characters.specs.Characters.{chars_left}
 use Rattle.characters.proofs.Folds.{length-chars}
-use Rattle.line.proofs.Glyphs.{drawn_start, drawn_step, drawn_end, character_limits, replaced_fits, walked_all, met_all}
+use Rattle.line.proofs.Glyphs.{drawn_start, drawn_step, drawn_end, character_limits, walked_all, met_all}
 use Rattle.line.proofs.PreparedLine.draw_glyphs.Goals as goal
 
 pub loop-ch-init : goal.loop-ch-init
@@ -16,11 +16,6 @@ pub draw_character-replaced-requires-clause-character_limits : goal.draw_charact
 draw_character-replaced-requires-clause-character_limits c =
     let n = length-chars c.args.self.now.line.text.now in
     character_limits _ _ _ _ _ _ _ _ _ _ _ _ c.loop-ch.invariant c.in-Some.ensures.steps (omega (arith, c.requires.place_limits.text_short)) c.requires.place_limits.near_x
-
-pub overflow_add-replaced : goal.overflow_add-replaced
-overflow_add-replaced c =
-    let n = length-chars c.args.self.now.line.text.now in
-    replaced_fits _ _ _ _ _ _ _ _ _ _ _ _ c.loop-ch.invariant c.in-Some.ensures.steps _ c.draw_character-replaced.ensures.value (omega (arith, c.requires.place_limits.text_short))
 
 pub overflow_add-x : goal.overflow_add-x
 overflow_add-x c =
