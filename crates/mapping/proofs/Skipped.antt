@@ -135,38 +135,41 @@ module _ (s : List ℕ) (ch : ℕ) (r : Passed) (g : Skips s (needle_of ch) r) (
       let p = g.passes in
       rest-by s ch r.at p.within g.boundary (suc r.at) 0 (step_at s 0) refl (omega arith) (omega arith) v (λ q a b. p.clear q b)
 
-  pub skip_well : well_formed (bytes_from s r.at) ≡ true
-  skip_well = well_rest s r.at g.passes.within ∙ rest.well
+  pub skip_well : well_formed_from s r.at ≡ true
+  skip_well = rest.well
 
-  -- the position in the rest
-  skip-placed : (k : ℕ) → place_from k ch (list_of s) ≡ place_from (k + leads s 0 r.at) ch (list_of (bytes_from s r.at))
-  skip-placed k = let z : r.at - 0 ≡ r.at = omega arith in rw (chars_rest s r.at g.passes.within) (rw z at (rest.placed k))
+  -- the position after it
+  skip-placed : (k : ℕ) → place_from k ch (list_of s) ≡ place_from (k + leads s 0 r.at) ch (spelled (chars_from s r.at))
+  skip-placed k = let z : r.at - 0 ≡ r.at = omega arith in rw z at (rest.placed k)
 
   pub skip_again : (most k m j : ℕ) (f : Option ℕ) → m ≡ min r.count most → j ≡ min (k + m) most
-      → at_most most (place_from k ch (list_of s)) ≡ f → at_most most (place_from j ch (list_of (bytes_from s r.at))) ≡ f
+      → at_most most (place_from k ch (list_of s)) ≡ f → at_most most (place_from j ch (spelled (chars_from s r.at))) ≡ f
   skip_again most k m j f a b h =
       let n = g.passes.counted in
-      place_capped most ch (list_of (bytes_from s r.at)) j (k + leads s 0 r.at) (omega arith) ∙ (rw (skip-placed k) at h)
+      place_capped most ch (spelled (chars_from s r.at)) j (k + leads s 0 r.at) (omega arith) ∙ (rw (skip-placed k) at h)
 
-  pub skip_stopped : {x : Entry} → x ≡ entry_at (bytes_from s r.at) 0 → StoppedEntry x
+  pub skip_stopped : {x : Entry} → x ≡ entry_at s r.at → StoppedEntry x
       → (most k : ℕ) (f : Option ℕ) → at_most most (place_from k ch (list_of s)) ≡ f → None ≡ f
-  skip_stopped e t most k f h = find_stopped (bytes_from s r.at) 0 e t most _ ch f (rw (skip-placed k) at h)
+  skip_stopped e t most k f h = find_stopped s r.at e t most _ ch f (rw (skip-placed k) at h)
 
 -- after what was passed over, counted from as many as that has
 pub resumes : (s : List ℕ) (ch limit : ℕ) (r : Passed) → SkipsBelow s limit r → well_formed s ≡ true → (lead : ℕ) → lead ≡ (needle_of ch).lead → Fits w8 lead
     → limit ≤ lead → (k m j : ℕ) → m ≡ min r.count 65_536 → j ≡ min (k + m) 65_536 → Resumes s ch k (bytes_from s r.at) j
 resumes s ch limit r g v lead e f h k m j a b =
     let t = skips_from s limit r g ch lead e h f in
-    record { well = skip_well s ch r t v; small = omega arith; placed = skip_again s ch r t v 65_536 k m j _ a b refl }
+    record {
+      well = well_rest s r.at t.passes.within ∙ skip_well s ch r t v;
+      small = omega arith;
+      placed = rw (chars_rest s r.at t.passes.within) (skip_again s ch r t v 65_536 k m j _ a b refl);
+    }
 
 pub resumed : (s : List ℕ) (ch k : ℕ) (l : List ℕ) (n : ℕ) (f : Option ℕ) → Resumes s ch k l n
     → f ≡ at_most 65_536 (place_from n ch (list_of l)) → f ≡ at_most 65_536 (place_from k ch (list_of s))
 resumed s ch k l n f g h = h ∙ g.placed
 
--- an entry after what was passed over leaves less
-pub skip_less : (s : List ℕ) (at : ℕ) {x : Entry} → x ≡ entry_at (bytes_from s at) 0 → {start end : ℕ} {c : Cursor} → x ≡ entry.Range start end c
-    → length (bytes_from (bytes_from s at) c.at) < length s
-skip_less s at {x} e {start} {end} {c} q = let a = entry_range (bytes_from s at) 0 e q in omega (arith, rest_length s at, rest_length (bytes_from s at) c.at)
+-- after an entry less is left
+pub skip_less : (s : List ℕ) (at : ℕ) {x : Entry} → x ≡ entry_at s at → {start end : ℕ} {c : Cursor} → x ≡ entry.Range start end c → length (bytes_from s c.at) < length s
+skip_less s at {x} e {start} {end} {c} q = let a = entry_range s at e q in omega (arith, rest_length s c.at)
 
 -- a position that is cut is small
 pub capped : (k v : ℕ) → k ≡ min v 65_536 → k ≤ 65_537

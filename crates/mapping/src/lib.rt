@@ -125,8 +125,7 @@ fn find(mapping: &[u8], count: u64, ch: u32) -> Option<u32>
         let passed = search::skip(rest, ch);
         let more = passed.count.min(65536);
         k = (k + more).min(65536);
-        rest = &rest[passed.at..];
-        let Entry::Range(start, end, after) = entry_at(rest, Cursor { at: 0 }) else {
+        let Entry::Range(start, end, after) = entry_at(rest, Cursor { at: passed.at }) else {
             return None;
         };
         if in_range(start, end, ch) {

@@ -19,11 +19,11 @@ returns-then-in_range c = search (found_at, skip_again)
 pub overflow_add-k-in-loop-start : goal.overflow_add-k-in-loop-start
 overflow_add-k-in-loop-start c = search (count_fits, capped)
 
-pub slice_bounds-rest-count-in-loop-start : goal.slice_bounds-rest-count-in-loop-start
-slice_bounds-rest-count-in-loop-start c = search entry_within
+pub slice_bounds-rest-count : goal.slice_bounds-rest-count
+slice_bounds-rest-count c = search entry_within
 
-pub slice_bounds-rest-start-in-loop-start : goal.slice_bounds-rest-start-in-loop-start
-slice_bounds-rest-start-in-loop-start c = search entry_within
+pub slice_bounds-rest-start : goal.slice_bounds-rest-start
+slice_bounds-rest-start c = search entry_within
 
 pub loop-start-smaller : goal.loop-start-smaller
 loop-start-smaller c = search skip_less
