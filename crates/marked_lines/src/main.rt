@@ -5,10 +5,9 @@
 #![tactic(auto)]
 
 ghost use Rattle.std.specs.Prelude.{◌<◌, ◌≤◌, length};
-ghost use Rattle.mapping.specs.Entries.{WithinLimit};
 
 use characters::{Cursor, Step};
-use mapping::Glyph;
+use mapping::{Glyph, Mapping};
 use reading::read_full;
 use refusals::Refusal;
 
@@ -30,27 +29,23 @@ fn show_text(out: &impl Print, bytes: &[u8]) {
 }
 
 // How many numbers a mapping lists.
-fn listed(mapping: &[u8]) -> usize
-    requires { WithinLimit mapping.now }
-{
-    (0..0x110000)
-        .filter(|ch| mapping::contains(mapping, *ch))
-        .count()
+fn listed(mapping: Mapping) -> usize {
+    (0..0x110000).filter(|ch| mapping.contains(*ch)).count()
 }
 
 // A mapping's refusal, or how many characters it lists.
-fn show_mapping(out: &impl Print, mapping: &[u8]) {
-    if let Err(refusal) = mapping::check_mapping(mapping) {
+fn show_mapping(out: &impl Print, bytes: &[u8]) {
+    if let Err(refusal) = mapping::check_mapping(bytes) {
         let _ = print!(out; " {refusal}");
         return;
     }
-    let _ = print!(out; " fits, lists {}", listed(mapping));
+    let _ = print!(out; " fits, lists {}", listed(Mapping { bytes }));
 }
 
 // The glyph of a character in a mapping with replacement 9; index 0 and not listed in a mapping that is refused, as it is printed.
-fn glyph_in(mapping: &[u8], ch: u32) -> Glyph {
-    match mapping::check_mapping(mapping) {
-        Ok(()) => mapping::glyph_of(mapping, 9, ch),
+fn glyph_in(bytes: &[u8], ch: u32) -> Glyph {
+    match mapping::check_mapping(bytes) {
+        Ok(()) => Mapping { bytes }.glyph_of(9, ch),
         Err(_) => Glyph {
             index: 0,
             listed: false,

@@ -13,6 +13,7 @@ use codes::{alignment, baseline, line_height};
 use geometry::{ORIGIN, Point, Size};
 use line::{DecorationDimensions, Font, Metrics, MonoFont, MonoTextStyle};
 pub use listed::{FontRecord, ItemRecord};
+use mapping::Mapping;
 use sheet::Sheet;
 use sheet::fields::{font_offset, part, u8_at, u16_at, u32_at};
 use text::{Text, TextLayout, TextStyle};
@@ -83,13 +84,15 @@ impl<'a> FontRecord<'a> {
         part(bytes, u32_at(bytes, o), u32_at(bytes, o + 4))
     }
 
-    // The bytes of the font's mapping.
-    pub fn mapping(self) -> &'a [u8]
-        ensures { result.now ≡ mapping_bytes self.entry.sheet.bytes.now (font_at self.entry.number) }
+    // The font's mapping.
+    pub fn mapping(self) -> Mapping<'a>
+        ensures { result.bytes.now ≡ mapping_bytes self.entry.sheet.bytes.now (font_at self.entry.number) }
     {
         let bytes = self.sheet.bytes;
         let o = font_offset(self.number);
-        part(bytes, u32_at(bytes, o + 8), u16_at(bytes, o + 12))
+        Mapping {
+            bytes: part(bytes, u32_at(bytes, o + 8), u16_at(bytes, o + 12)),
+        }
     }
 
     // The font: its numbers, its atlas and its mapping.

@@ -115,13 +115,13 @@ told true = refl
 told false = refl
 
 module _ (b c : List ℕ) (n k : ℕ) (same : c ≡ b) (here : k ≡ n) (z : 0 ≡ font_code b n) (f : Lent.Font) (ef : lent f ≡ font c k) where
-  mapping-is : f.mapping.now ≡ (font b n).mapping
+  mapping-is : f.mapping.bytes.now ≡ (font b n).mapping
   mapping-is = ap (λ (x : Line.Font). x.mapping) ef ∙ ap₂ (λ (s : List ℕ) (i : ℕ). (font s i).mapping) same here
 
   replacement-is : f.metrics.font.replacement_index ≡ (font b n).mono.replacement_index
   replacement-is = ap (λ (x : Line.Font). x.mono.replacement_index) ef ∙ ap₂ (λ (s : List ℕ) (i : ℕ). (font s i).mono.replacement_index) same here
 
-  pub index_done : (ch v : ℕ) (g : Mapping.Glyph) → g ≡ glyph f.mapping.now f.metrics.font.replacement_index ch → v ≡ bool_byte g.listed
+  pub index_done : (ch v : ℕ) (g : Mapping.Glyph) → g ≡ glyph f.mapping.bytes.now f.metrics.font.replacement_index ch → v ≡ bool_byte g.listed
       → ◌≡◌ {A = Glyph} (record { code = 0; index = g.index; listed = v }) (index_reply b n ch)
   unfolding index_reply glyph_reply
   index_done ch v g q d =
@@ -129,7 +129,7 @@ module _ (b c : List ℕ) (n k : ℕ) (same : c ≡ b) (here : k ≡ n) (z : 0 �
       let good : ◌≡◌ {A = Glyph} (record { code = 0; index = g.index; listed = v }) (glyph_reply 0 g) = rw (d ∙ told g.listed) in
       good ∙ ap₂ glyph_reply z same-glyph
 
-  pub contains_done : (ch v : ℕ) (t : Bool) → t ≡ contains f.mapping.now ch → v ≡ bool_byte t → ◌≡◌ {A = Number} (record { code = 0; value = v }) (contains_reply b n ch)
+  pub contains_done : (ch v : ℕ) (t : Bool) → t ≡ contains f.mapping.bytes.now ch → v ≡ bool_byte t → ◌≡◌ {A = Number} (record { code = 0; value = v }) (contains_reply b n ch)
   unfolding contains_reply
   contains_done ch v t q d = number_done (font_code b n) z v _ (d ∙ told t ∙ ap yes_no (q ∙ ap (λ (m : List ℕ). contains m ch) mapping-is))
 

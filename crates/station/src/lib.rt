@@ -44,7 +44,7 @@ pub fn station_index(sheet: &[u8], font: u32, character: u32) -> Glyph
         Ok(record) => {
             let font = record.font();
             let replacement = font.metrics.font.replacement_index;
-            let glyph = mapping::glyph_of(font.mapping, replacement, character);
+            let glyph = font.mapping.glyph_of(replacement, character);
             Glyph {
                 code: 0,
                 index: glyph.index,
@@ -64,7 +64,7 @@ pub fn station_contains(sheet: &[u8], font: u32, character: u32) -> Number
             let font = record.font();
             Number {
                 code: 0,
-                value: u32::from(mapping::contains(font.mapping, character)),
+                value: u32::from(font.mapping.contains(character)),
             }
         }
     }

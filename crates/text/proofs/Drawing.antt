@@ -2,11 +2,12 @@
 use Prim.Native.Nat.{ℕ, ◌+◌, ◌-◌, ◌<◌, ◌≤◌}
 use native.Mathlib.Omega.{arith}
 use mathlib.Core.Path.{◌≡◌, refl, sym, ◌∙◌}
-use mathlib.Core.Bool.{Bool, true, cond}
+use mathlib.Core.Bool.{Bool, true, false, cond}
 use mathlib.Core.List.{List, []}
 use lib.ListN.{length, take, drop}
 use mir.Syntax.{w32}
 use mir.Val.{Fits}
+use Rattle.std.specs.Prelude.{Option, Some, None, unwrap_or}
 use Rattle.geometry.specs.declared.Point.{Point}
 use Rattle.geometry.specs.declared.canvas.Frame.{Frame}
 use Rattle.geometry.specs.Painted.{Painted}
@@ -40,9 +41,14 @@ module _ (t : TextLayout) (l : TextLine) (atlas mapping : List ℕ) (f : Font) (
   unfolding line_next place_line line_corner
   line_next_lem r p = rw (ef, d, e) at p
 
-  pub line_count : (counts : Bool) (r : ℕ) → r ≡ cond counts (unlisted f.mapping (chars shown)) 0 → r ≡ cond counts (line_replaced mapping (placed_line t l)) 0
+  pub line_count : (counts : Bool) (r : Option ℕ) → r ≡ cond counts (Some (unlisted f.mapping (chars shown))) None → r ≡ cond counts (Some (line_replaced mapping (placed_line t l))) None
   unfolding line_replaced place_line
   line_count counts r p = rw (ef, e) at p
+
+-- what is told where it is asked for, and else 0
+pub told_count : (counts : Bool) (n k : ℕ) (told : Option ℕ) → told ≡ cond counts (Some n) None → k ≡ unwrap_or told 0 → k ≡ cond counts n 0
+told_count true n k told e f = f ∙ rw e
+told_count false n k told e f = f ∙ rw e
 
 -- ---- `draw`
 

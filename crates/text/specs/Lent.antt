@@ -9,7 +9,7 @@ use Rattle.text.specs.Text.{Text, PlacedLine, text_of, laid_out, place_line}
 
 -- the font of the numbers and the bytes that are lent
 abbrev pub lent_font : Lent.Text → Line.Font
-lent_font t = font_of t.layout.metrics.font t.atlas.now t.mapping.now
+lent_font t = font_of t.layout.metrics.font t.atlas.now t.mapping.bytes.now
 
 -- the text of the bytes that are lent
 abbrev pub lent_text : TextLayout → Text

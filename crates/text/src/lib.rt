@@ -122,7 +122,7 @@ impl<'a> Text<'a> {
     fn draw_line(&self, frame: &mut Frame, line: &TextLine, counts: bool) -> DrawnLine
         ensures painted { Painted frame.old (line_layer (lent_font self.now) (line_text self.now.layout line.now) (placed_line self.now.layout line.now)) frame.new }
         ensures next_value { result.next ≡ (line_next self.now.layout.metrics.font (line_text self.now.layout line.now) (placed_line self.now.layout line.now)).x }
-        ensures replaced_value { result.replaced ≡ cond counts (line_replaced self.now.mapping.now (placed_line self.now.layout line.now)) 0 }
+        ensures replaced_value { result.replaced ≡ cond counts (Some (line_replaced self.now.mapping.bytes.now (placed_line self.now.layout line.now))) None }
     {
         let layout = &self.layout;
         let shown = Line {
@@ -161,7 +161,7 @@ impl<'a> Text<'a> {
                 position,
             };
             let drawn = self.draw_line(frame, &line, replies);
-            replaced = replaced + drawn.replaced;
+            replaced = replaced + drawn.replaced.unwrap_or(0);
             if text.len() <= end {
                 let last = Point { x: drawn.next, y };
                 let next = if replies { last } else { start };

@@ -1,11 +1,11 @@
 // A text as it is measured and as it is drawn, and a line of it.
 ghost use Rattle.std.specs.Prelude.{length};
-ghost use Rattle.mapping.specs.Entries.{WithinLimit};
 ghost use Rattle.text.specs.Limits.{TextLimits, LineLimits};
 
 use super::TextStyle;
 use geometry::Point;
 use line::{Metrics, MonoTextStyle};
+use mapping::Mapping;
 
 // A text as it is measured: its bytes, which are lent, the numbers of its font, where it stands and how it is set.
 #[derive(Clone, Copy)]
@@ -18,13 +18,12 @@ pub struct TextLayout<'a> {
     ghost limits: { TextLimits (length text.now) position.x position.y text_style.line_height },
 }
 
-// A text as it is drawn, embedded-graphics' `Text`: the bytes of its font's atlas and of its mapping are lent with it.
+// A text as it is drawn, embedded-graphics' `Text`: the bytes of its font's atlas are lent with it, and its mapping.
 #[derive(Clone, Copy)]
 pub struct Text<'a> {
     pub layout: TextLayout<'a>,
     pub atlas: &'a [u8],
-    pub mapping: &'a [u8],
-    ghost within_limit: { WithinLimit mapping.now },
+    pub mapping: Mapping<'a>,
 }
 
 // A line of a text: its bytes, with its return if it has one, and where it is set.

@@ -2,5 +2,5 @@
 use Rattle.mapping.proofs.Listed.{checked_within}
 use Rattle.marked_lines.proofs.glyph_in.Goals as goal
 
-pub glyph_of-requires : goal.glyph_of-requires
-glyph_of-requires c = search checked_within
+pub invariant_of-glyph_of : goal.invariant_of-glyph_of
+invariant_of-glyph_of c = record { within_limit = search checked_within }

@@ -2,5 +2,5 @@
 use Rattle.mapping.proofs.Listed.{checked_within}
 use Rattle.marked_lines.proofs.show_mapping.Goals as goal
 
-pub listed-requires : goal.listed-requires
-listed-requires g c = search checked_within
+pub invariant_of-listed : goal.invariant_of-listed
+invariant_of-listed g c = record { within_limit = search checked_within }

@@ -2,7 +2,7 @@
 -- clip. Assumes nothing.
 use Rattle.characters.proofs.Feeds.{end_reach, line_less}
 use Rattle.text.proofs.Places.{at_fits}
-use Rattle.text.proofs.Drawing.{lines_start, left_painted, left_position, left_count, lines_step, draw_last, total_fits, count_last, next_last}
+use Rattle.text.proofs.Drawing.{lines_start, left_painted, left_position, left_count, lines_step, draw_last, total_fits, count_last, told_count, next_last}
 use Rattle.text.proofs.texts.Text.draw.Goals as goal
 
 pub loop-text-init : goal.loop-text-init
@@ -21,13 +21,13 @@ pub loop-text-smaller : goal.loop-text-smaller
 loop-text-smaller c = search line_less
 
 pub loop-text-preserved : goal.loop-text-preserved
-loop-text-preserved c = search lines_step
+loop-text-preserved c = search (lines_step, told_count)
 
 pub slice_bounds-line-end : goal.slice_bounds-line-end
 slice_bounds-line-end c = search end_reach
 
 pub overflow_add-replaced : goal.overflow_add-replaced
-overflow_add-replaced c = search total_fits
+overflow_add-replaced c = search (total_fits, told_count)
 
 pub overflow_add-y : goal.overflow_add-y
 overflow_add-y c = search at_fits
@@ -39,7 +39,7 @@ pub returns-then-replies-clause-next_value : goal.returns-then-replies-clause-ne
 returns-then-replies-clause-next_value c = next_last _ _ _ _ _ _ _ _ _ c.loop-text.invariant c.line_end-end.ensures _ c.if-replies.true c.if-text-end.true c.draw_line-drawn.ensures.next_value
 
 pub returns-then-replies-clause-replaced_value : goal.returns-then-replies-clause-replaced_value
-returns-then-replies-clause-replaced_value c = search count_last
+returns-then-replies-clause-replaced_value c = search (count_last, told_count)
 
 pub returns-else-replies-clause-painted : goal.returns-else-replies-clause-painted
 returns-else-replies-clause-painted c = search draw_last
