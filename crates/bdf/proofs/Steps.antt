@@ -18,11 +18,13 @@ use Rattle.bdf_lines.specs.declared.values.Four.{Four}
 use Rattle.bdf.specs.declared.reader.Answer.TheVariants.{Passed, Boxed, Encoded, Drawn}
 use Rattle.bdf_lines.specs.declared.values.Number.{Number}
 use Rattle.bdf.specs.declared.reader.BoundingBox.{BoundingBox}
+use denote.Enum.Bare.{sameb, same_true, same_false}
+use Rattle.bdf.specs.contracts.reader.Expected.{the_type}
 use Rattle.bdf.specs.declared.reader.Expected.{Expected}
 use Rattle.bdf.specs.declared.reader.Expected.TheVariants.{StartFont, Font, Size, FontBoundingBox, Properties, Property, Chars, Glyph, Encoding, Swidth, Dwidth, Bbx, Attributes, Bitmap, Rows, Nothing}
 use Rattle.bdf.specs.declared.reader.Reader.{Reader}
 use Rattle.bdf.specs.declared.reader.Answer.{Answer}
-use Rattle.bdf.specs.Reader.{origin, place, box, baseline, cell_tests, is_cell, box_tests, is_in_cell, is_character, utf8, spelling, expecting, leaving, moved, counted, with_cell, cell_line, properties_line, spelling_line, encoding_line, with_bbx, bbx_line, with_row, row_line, line_step, order, in_bitmap, step}
+use Rattle.bdf.specs.Reader.{origin, place, box, baseline, is_box, cell_tests, is_cell, box_tests, is_in_cell, is_character, utf8, spelling, expecting, leaving, moved, counted, with_cell, cell_line, properties_line, spelling_line, encoding_line, with_bbx, bbx_line, with_row, row_line, line_step, order, in_bitmap, step}
 use Rattle.bdf_lines.specs.Words.{words, is_alone, is_named, is_comment, is_hex_pair, row_of}
 use Rattle.bdf_lines.specs.Keywords as word
 use Rattle.bdf.specs.Writing.{InCell, GoodCell}
@@ -111,35 +113,98 @@ module _ (from side end : ℕ) where
 pub height_fits : (h v : ℕ) (y : Number) → h ≤ 64 → v ≡ place y → y.size ≤ origin → Fits w32 (h + v)
 height_fits h v y l e s = omega (arith, place_small y s)
 
--- the last test of a cell, its `baseline`
-pub cell_baseline : (w h x y : Number) (v : ℕ) → w.negative ≡ false → h.negative ≡ false → w.size ≤ 64 → h.size ≤ 64
-    → x.size ≤ origin → y.size ≤ origin → v ≡ place y → leb (h.size + v) 1_000_000_256 ≡ is_cell w h x y
-unfolding is_cell baseline
-cell_baseline w h x y v wn hn ws hs xs ys e =
-    leb_same (h.size + v) 1_000_000_256 (h.size + v - (origin + 1)) 255 (λ l. omega arith) (λ l. omega arith)
-    ∙ rw (wn, hn, le-leb w.size 64 ws, le-leb h.size 64 hs, le-leb x.size origin xs, le-leb y.size origin ys, ← e) (and_last _ _ refl)
+-- ---- `is_box`, and what it says of a cell and of a box in one
 
--- the last tests of a box in its cell
-module _ (cell : BoundingBox) (w h x y : Number) (left foot : ℕ) (wn : w.negative ≡ false) (hn : h.negative ≡ false) (xs : x.size ≤ origin) (ys : y.size ≤ origin)
-    (e : left ≡ place x) (f : foot ≡ place y) where
-  placed : is_in_cell cell w h x y
-      ≡ (leb cell.x left && (leb (left + w.size) (cell.x + cell.width) && (leb cell.y foot && (leb (foot + h.size) (cell.y + cell.height) && true))))
-  unfolding is_in_cell
-  placed = rw (wn, hn, le-leb x.size origin xs, le-leb y.size origin ys, e, f)
+pub box_made_of : (w h x y : Number) (a b c d : Bool) → not w.negative ≡ a → not h.negative ≡ b → c ≡ leb x.size origin → d ≡ leb y.size origin → (((a && b) && c) && d) ≡ is_box w h x y
+unfolding is_box
+box_made_of w h x y a b c d p q r s = rw (p, q, ← r, ← s) (go a b c d)
+  where
+    go : (a b c d : Bool) → (((a && b) && c) && d) ≡ (a && (b && (c && (d && true))))
+    go true true true d = and_last _ _ refl
+    go true true false d = refl
+    go true false c d = refl
+    go false b c d = refl
 
-  pub left_of_cell : left < cell.x → false ≡ is_in_cell cell w h x y
-  left_of_cell l = rw placed (and_stop _ _ (lt-leb cell.x left l))
+-- t is what `is_box` gave
+module _ (w h x y : Number) (t : Bool) (q : t ≡ is_box w h x y) where
+  module _ (o : not t ≡ true) where
+    pub no_cell : false ≡ is_cell w h x y
+    unfolding is_box is_cell
+    no_cell = go (not w.negative) (not h.negative) (leb w.size 64) (leb h.size 64) (leb x.size origin) (leb y.size origin) _ (sym q ∙ not-true t o)
+      where
+        go : (a b c d e f g : Bool) → (a && (b && (e && (f && true)))) ≡ false → false ≡ (a && (b && (c && (d && (e && (f && g))))))
+        go false b c d e f g p = refl
+        go true false c d e f g p = refl
+        go true true false d e f g p = refl
+        go true true true false e f g p = refl
+        go true true true true false f g p = refl
+        go true true true true true false g p = refl
+        go true true true true true true g p = cc
 
-  module _ (l : cell.x ≤ left) (t : Bool) (q : t ≡ leb (left + w.size) (cell.x + cell.width)) where
-    pub right_of_cell : not t ≡ true → false ≡ is_in_cell cell w h x y
-    right_of_cell o = rw (placed, le-leb cell.x left l) (and_stop _ _ (sym q ∙ not-true t o))
+    pub no_box : (cell : BoundingBox) → false ≡ is_in_cell cell w h x y
+    unfolding is_box is_in_cell
+    no_box cell = go (not w.negative) (not h.negative) (leb x.size origin) (leb y.size origin) _ (sym q ∙ not-true t o)
+      where
+        go : (a b e f g : Bool) → (a && (b && (e && (f && true)))) ≡ false → false ≡ (a && (b && (e && (f && g))))
+        go false b e f g p = refl
+        go true false e f g p = refl
+        go true true false f g p = refl
+        go true true true false g p = refl
+        go true true true true g p = cc
 
-    module _ (o : not t ≡ false) where
-      pub below_cell : foot < cell.y → false ≡ is_in_cell cell w h x y
-      below_cell m = rw (placed, le-leb cell.x left l, ← q, not-false t o) (and_stop _ _ (lt-leb cell.y foot m))
+  module _ (o : not t ≡ false) where
+    box_true : (i : ℕ) → get_or (not w.negative ∷ not h.negative ∷ leb x.size origin ∷ leb y.size origin ∷ []) i true ≡ true
+    unfolding is_box
+    box_true = all_true (not w.negative ∷ not h.negative ∷ leb x.size origin ∷ leb y.size origin ∷ []) (sym q ∙ not-false t o)
 
-      pub above_cell : (u : Bool) → cell.y ≤ foot → u ≡ leb (foot + h.size) (cell.y + cell.height) → u ≡ is_in_cell cell w h x y
-      above_cell u m p = rw (placed, le-leb cell.x left l, ← q, not-false t o, le-leb cell.y foot m) (and_last _ _ p)
+    wn : w.negative ≡ false
+    wn = not-true w.negative (box_true 0)
+
+    hn : h.negative ≡ false
+    hn = not-true h.negative (box_true 1)
+
+    pub box_x : x.size ≤ origin
+    box_x = leb-true _ _ (box_true 2)
+
+    pub box_y : y.size ≤ origin
+    box_y = leb-true _ _ (box_true 3)
+
+    pub cell_wide : 64 < w.size → false ≡ is_cell w h x y
+    unfolding is_cell
+    cell_wide l = rw (wn, hn, lt-leb w.size 64 l)
+
+    module _ (ws : w.size ≤ 64) where
+      pub cell_high : 64 < h.size → false ≡ is_cell w h x y
+      unfolding is_cell
+      cell_high l = rw (wn, hn, le-leb w.size 64 ws, lt-leb h.size 64 l)
+
+      -- the last test of a cell, its `baseline`
+      pub cell_baseline : (v : ℕ) → h.size ≤ 64 → v ≡ place y → leb (h.size + v) 1_000_000_256 ≡ is_cell w h x y
+      unfolding is_cell baseline
+      cell_baseline v hs e =
+          leb_same (h.size + v) 1_000_000_256 (h.size + v - (origin + 1)) 255 (λ l. omega arith) (λ l. omega arith)
+          ∙ rw (wn, hn, le-leb w.size 64 ws, le-leb h.size 64 hs, le-leb x.size origin box_x, le-leb y.size origin box_y, ← e) (and_last _ _ refl)
+
+    -- the last tests of a box in its cell
+    module _ (cell : BoundingBox) (left foot : ℕ) (e : left ≡ place x) (f : foot ≡ place y) where
+      placed : is_in_cell cell w h x y
+          ≡ (leb cell.x left && (leb (left + w.size) (cell.x + cell.width) && (leb cell.y foot && (leb (foot + h.size) (cell.y + cell.height) && true))))
+      unfolding is_in_cell
+      placed = rw (wn, hn, le-leb x.size origin box_x, le-leb y.size origin box_y, e, f)
+
+      pub left_of_cell : left < cell.x → false ≡ is_in_cell cell w h x y
+      left_of_cell l = rw placed (and_stop _ _ (lt-leb cell.x left l))
+
+      module _ (l : cell.x ≤ left) (u : Bool) (r : u ≡ leb (left + w.size) (cell.x + cell.width)) where
+        pub right_of_cell : not u ≡ true → false ≡ is_in_cell cell w h x y
+        right_of_cell k = rw (placed, le-leb cell.x left l) (and_stop _ _ (sym r ∙ not-true u k))
+
+        module _ (k : not u ≡ false) where
+          pub below_cell : foot < cell.y → false ≡ is_in_cell cell w h x y
+          below_cell m = rw (placed, le-leb cell.x left l, ← r, not-false u k) (and_stop _ _ (lt-leb cell.y foot m))
+
+          pub above_cell : (v : Bool) → cell.y ≤ foot → v ≡ leb (foot + h.size) (cell.y + cell.height) → v ≡ is_in_cell cell w h x y
+          above_cell v m p = rw (placed, le-leb cell.x left l, ← r, not-false u k, le-leb cell.y foot m) (and_last _ _ p)
 
 -- ---- what the tests of a box give
 
@@ -418,13 +483,18 @@ pub rows_expected : (e : Expected) → order e ≡ 14 → e ≡ Rows
 rows_expected e p = order_tells e Rows 14 (sym p) refl
 
 module _ (r : Reader) where
-  pub no_bitmap : (r.expected ≡ Rows → ⊥) → false ≡ in_bitmap r
+  no_bitmap : (r.expected ≡ Rows → ⊥) → false ≡ in_bitmap r
   unfolding in_bitmap
   no_bitmap h = rw (ne_eqb (order r.expected) 14 (λ o. h (rows_expected r.expected o)))
 
-  pub bitmap-next : r.expected ≡ Rows → ltb r.read r.bbx.height ≡ in_bitmap r
+  bitmap-next : r.expected ≡ Rows → ltb r.read r.bbx.height ≡ in_bitmap r
   unfolding in_bitmap
   bitmap-next e = rw e
+
+  -- t is what `==` gave
+  pub bitmap_next : (t u : Bool) → t ≡ sameb the_type r.expected Rows → u ≡ ltb r.read r.bbx.height → (t && u) ≡ in_bitmap r
+  bitmap_next true u p q = q ∙ bitmap-next (same_true the_type tt _ _ (sym p))
+  bitmap_next false u p q = no_bitmap (same_false the_type _ _ (sym p))
 
   module _ (l : List ℕ) (t : Bool) (e : t ≡ in_bitmap r) where
     module _ (a : Result Answer Refusal) (q : a ≡ line_step r.expected r l (words l)) where

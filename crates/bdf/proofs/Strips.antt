@@ -8,16 +8,16 @@ use borrow.Rule.Slice.PartMut.{put_mid}
 use Rattle.geometry.specs.Layer.{map_indexed}
 use mathlib.Core.List.{List, ◌∷◌}
 use lib.ListN.{length, take, drop, length-drop}
-use lib.Seq.{length-take-le, take_all}
+use lib.Seq.{length-take-le}
 use lib.Dec.{ltb, leb, eqb}
 use mir.Syntax.{w32, w64}
 use mir.Val.{Fits}
 use borrow.Author.Tests.{lt-ltb, eqb-true, leb-true, not-true, not-false}
 use Rattle.characters.specs.Utf8.{is_surrogate}
-use Rattle.std.specs.Prelude.{Option, Some, Result, Ok}
+use Rattle.std.specs.Prelude.{Result, Ok}
 use Rattle.refusals.specs.declared.Refusal.{Refusal}
 use Rattle.bdf.specs.declared.reader.Answer.TheVariants.{Passed, Boxed, Encoded, Drawn}
-use Rattle.bdf_lines.specs.Forms.{line_at, RowFound}
+use Rattle.bdf_lines.specs.Forms.{line_at, IsRow}
 use Rattle.bdf_lines.proofs.BitmapLines.{bits_small}
 use Rattle.bdf.specs.declared.reader.BoundingBox.{BoundingBox}
 use Rattle.bdf.specs.declared.reader.Expected.TheVariants.{Rows}
@@ -286,16 +286,13 @@ module _ (file : List ℕ) (w : Bool) (size : ℕ) (r : Reader) (out : List ℕ)
   pub rows_start : Within r → Carries file w size r out r file out
   rows_start i = carries_none file w size r out i
 
-  module _ (i : ℕ) (rest mid : List ℕ) (p : Reader) (same : p ≡ rows_read i r) (c : Carries file w size r out p rest mid) (less : i < r.bbx.height) (x : Option (ℕ × ℕ))
-      (f : RowFound rest 0 r.bbx.width x) (bits end : ℕ) (e : x ≡ Some (bits, end)) where
+  module _ (i : ℕ) (rest mid : List ℕ) (p : Reader) (same : p ≡ rows_read i r) (c : Carries file w size r out p rest mid) (less : i < r.bbx.height) (bits : ℕ) (behind : List ℕ)
+      (f : IsRow rest r.bbx.width bits behind) where
     abbrev here : Reader
     here = rows_read i r
 
     carried : Carries file w size r out here rest mid
     carried = rw same at c
-
-    pub row_end_fits : Fits w64 (length file) → Fits w64 (end + 1)
-    row_end_fits l = omega (arith, (f.found bits end e).more, carried.onward)
 
     pub row_strip_fits : Room w (last_reader r (file_lines file)) size (length out) → (s : Strip) → s ≡ strip_of r → StripFits w s i bits (length mid)
     unfolding strip_of
@@ -303,7 +300,7 @@ module _ (file : List ℕ) (w : Bool) (size : ℕ) (r : Reader) (out : List ℕ)
         let g = gathered here (file_lines rest) carried.within in
         let k = glyphs-counted here (file_lines rest) in
         rw q (strip_fits w here (last_reader here (file_lines rest)) size (length mid) carried.within (room_kept file w size r out here rest mid carried m) refl (g.cell (omega arith)) (omega arith)
-        i bits less (bits_small r.bbx.width bits (line_at rest 0) (f.found bits end e).bitmap))
+        i bits less (bits_small r.bbx.width bits (line_at rest 0) f.bitmap))
 
     -- over one
     abbrev next : Reader
@@ -312,10 +309,10 @@ module _ (file : List ℕ) (w : Bool) (size : ℕ) (r : Reader) (out : List ℕ)
     pub rows_next : next ≡ rows_read (i + 1) r
     rows_next = rw same
 
-    pub rows_step : (s : Strip) (exit : List ℕ) → s ≡ strip_of r → exit ≡ put_strip_if w s i bits mid → length exit ≡ length mid → Carries file w size r out next (take (length rest - (end + 1)) (drop (end + 1) rest)) exit
+    pub rows_step : (s : Strip) (exit : List ℕ) → s ≡ strip_of r → exit ≡ put_strip_if w s i bits mid → length exit ≡ length mid → Carries file w size r out next behind exit
     unfolding in_bitmap strip_of
     rows_step s exit q t m =
         let b : in_bitmap here ≡ true = lt-ltb i r.bbx.height less in
-        let d : Ok (Drawn (with_row here) bits) ≡ step here (line_at rest 0) = row_step here (line_at rest 0) bits b (f.found bits end e).bitmap in
-        rw (rows_next, take_all (length rest - (end + 1)) (drop (end + 1) rest) (omega (arith, length-drop (end + 1) rest))) (carries_line file w size r out here rest mid carried (Ok (Drawn (with_row here) bits)) end d (omega (arith, (f.found bits end e).ends)) (f.found bits end e).more refl (with_row here) exit refl
+        let d : Ok (Drawn (with_row here) bits) ≡ step here (line_at rest 0) = row_step here (line_at rest 0) bits b f.bitmap in
+        rw rows_next (carries_line file w size r out here rest mid carried (Ok (Drawn (with_row here) bits)) d behind f.line refl (with_row here) exit refl
         (put_drawn size here (with_row here) (Drawn (with_row here) bits) mid exit w bits s refl q t) m)

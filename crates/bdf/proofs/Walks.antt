@@ -1,11 +1,12 @@
 -- Laws of the walk over a file's lines: what a line does to the rest, and bitmap lines one after another. Assumes nothing.
-use Prim.Native.Nat.{ℕ, zero, suc, ◌+◌, ◌-◌, ◌≤◌, ◌<◌}
+use Prim.Native.Nat.{ℕ, zero, suc, ◌+◌, ◌≤◌, ◌<◌}
 use native.Mathlib.Omega.{arith}
 use native.Mathlib.Decide.{dec_lt}
 use mathlib.Core.Path.{◌≡◌, refl, sym, ap, ◌∙◌}
 use mathlib.Core.Bool.{Bool, true, false, true≢false, and-eq-true_iff}
+use mathlib.Core.Logic.{◌⊎◌, inl, inr}
 use mathlib.Core.List.{List, [], ◌∷◌, map}
-use lib.ListN.{length, take, drop, length-drop}
+use lib.ListN.{length, drop, length-drop}
 use lib.Dec.{ltb, eqb}
 use borrow.Author.Tests.{ne_eqb, eqb-true, ltb-true}
 use Rattle.std.specs.Result.{is_ok}
@@ -14,7 +15,7 @@ use Rattle.refusals.specs.declared.Refusal.{Refusal}
 use Rattle.refusals.specs.declared.Refusal.TheVariants.{BdfLine}
 use Rattle.refusals.specs.Numbers.{number, refusal_of}
 use Rattle.bdf.specs.declared.reader.Answer.TheVariants.{Drawn}
-use Rattle.bdf_lines.specs.Forms.{line_at}
+use Rattle.bdf_lines.specs.Forms.{line_at, LineBefore}
 use Rattle.bdf.specs.declared.reader.Expected.TheVariants.{Rows, Nothing}
 use Rattle.bdf.specs.declared.reader.Answer.{Answer}
 use Rattle.bdf.specs.declared.reader.Reader.{Reader}
@@ -23,9 +24,8 @@ use Rattle.bdf_lines.specs.Words.{words, row_of}
 use Rattle.bdf.specs.Writing.{put_lines}
 use Rattle.bdf.specs.Within.{Within}
 use Rattle.bdf.specs.Walk.{Measured, put_if, put_lines_if, Room, Carries, LastLine}
-use Rattle.characters.specs.Lines.{line_length, without_return}
-use lib.Seq.{length-take-le}
-use Rattle.characters.proofs.Feeds.{end_reach, line_part, lines_more, lines_last}
+use Rattle.characters.specs.Lines.{line_length, line_from, without_return}
+use Rattle.characters.proofs.Feeds.{lines_more, lines_last}
 use Rattle.characters.specs.Refusal.{or_else}
 use Rattle.refusals.proofs.Numbers.{not_zero}
 use Rattle.bdf.proofs.Steps.{order_tells, rows_expected, step-bitmap, expected_is, bitmap_row}
@@ -55,14 +55,25 @@ module _ {A : Type 0} where
 
 -- ---- a line, and the rest
 
-module _ (text : List ℕ) (end : ℕ) (e : end ≡ line_length text) where
-  pub lines_more_here : end < length text → file_lines text ≡ line_at text 0 ∷ file_lines (drop (end + 1) text)
+module _ (text : List ℕ) where
+  pub lines_more_here : (rest : List ℕ) → LineBefore text rest → file_lines text ≡ line_at text 0 ∷ file_lines rest
   unfolding file_lines
-  lines_more_here h = ap (map without_return) (lines_more text 0 end (omega arith) (omega arith) h)
+  lines_more_here rest d = rw d.after (ap (map without_return) (lines_more text 0 (line_length text) (omega arith) (omega arith) d.feed))
 
-  pub lines_last_here : length text ≤ end → file_lines text ≡ line_at text 0 ∷ []
+  pub lines_last_here : length text ≤ line_length text → file_lines text ≡ line_at text 0 ∷ []
   unfolding file_lines
-  lines_last_here h = ap (map without_return) (lines_last text 0 end (omega arith) (omega arith) h)
+  lines_last_here h = ap (map without_return) (lines_last text 0 (line_length text) (omega arith) (omega arith) h)
+
+  -- a text begins with a line before a rest, or with its last line
+  pub first_or_last : ((rest : List ℕ) × LineBefore text rest) ⊎ (length text ≤ line_length text)
+  first_or_last = go (dec_lt (line_length text) (length text))
+    where
+      go : Dec (line_length text < length text) → ((rest : List ℕ) × LineBefore text rest) ⊎ (length text ≤ line_length text)
+      go (yes h) = inl (drop (line_length text + 1) text, record { feed = h; after = refl })
+      go (no h) = inr (omega arith)
+
+  pub rest_shorter : (rest : List ℕ) → LineBefore text rest → length rest < length text
+  rest_shorter rest d = omega (arith, ap length d.after, length-drop (line_length text + 1) text, d.feed)
 
 pub or_first : (n m : ℕ) → (n ≡ 0 → ⊥) → or_else n m ≡ n
 or_first zero m h = absurd (h refl)
@@ -111,16 +122,16 @@ module _ (file : List ℕ) (w : Bool) (size : ℕ) (r : Reader) (out : List ℕ)
       same_length = d.same_length ∙ c.same_length;
     }
 
-    module _ (a : Result Answer Refusal) (end : ℕ) (e : a ≡ step s (line_at text 0)) (f : end ≡ line_length text) where
+    module _ (a : Result Answer Refusal) (e : a ≡ step s (line_at text 0)) where
       -- a line that ends in a feed
-      module _ (h : end < length text) (z : refusal_of a ≡ 0) where
-        more : file_lines text ≡ line_at text 0 ∷ file_lines (drop (end + 1) text)
-        more = lines_more_here text end f h
+      module _ (rest : List ℕ) (d : LineBefore text rest) (z : refusal_of a ≡ 0) where
+        more : file_lines text ≡ line_at text 0 ∷ file_lines rest
+        more = lines_more_here text rest d
 
-        pub carries_line : (t : Reader) (exit : List ℕ) → t ≡ after s a → exit ≡ put_if w size s a mid → length exit ≡ length mid → Carries file w size r out t (drop (end + 1) text) exit
-        carries_line t exit p q m = carries_on t (drop (end + 1) text) exit (record {
+        pub carries_line : (t : Reader) (exit : List ℕ) → t ≡ after s a → exit ≡ put_if w size s a mid → length exit ≡ length mid → Carries file w size r out t rest exit
+        carries_line t exit p q m = carries_on t rest exit (record {
           within = rw (p, e) (within_step s (line_at text 0) c.within);
-          onward = omega (arith, length-drop (end + 1) text);
+          onward = omega (arith, rest_shorter text rest d);
           same_refusal = rw (p, more) (sym (refusal-more s (line_at text 0) _ a e z));
           same_last = rw (p, more) (sym (last_more s (line_at text 0) _ a e));
           same-put = rw (p, q, more) (sym (put-more s (line_at text 0) _ a e w size mid));
@@ -128,9 +139,9 @@ module _ (file : List ℕ) (w : Bool) (size : ℕ) (r : Reader) (out : List ℕ)
         })
 
       -- the last line
-      module _ (h : length text ≤ end) where
+      module _ (h : length text ≤ line_length text) where
         last : file_lines text ≡ line_at text 0 ∷ []
-        last = lines_last_here text end f h
+        last = lines_last_here text h
 
         put_end : (exit : List ℕ) → exit ≡ put_if w size s a mid → exit ≡ put_lines_if w size r (file_lines file) out
         put_end exit q = q ∙ put_none size w (after s a) (put_if w size s a mid) ∙ sym (put-more s (line_at text 0) [] a e w size mid) ∙ ap (λ (ls : List (List ℕ)). put_lines_if w size s ls mid) (sym last) ∙ c.same-put
@@ -146,11 +157,11 @@ module _ (file : List ℕ) (w : Bool) (size : ℕ) (r : Reader) (out : List ℕ)
       -- a line that is refused
       module _ (n : Refusal) (q : a ≡ Err n) where
         refused-there : first_refusal s (file_lines text) ≡ number n
-        refused-there = go (dec_lt end (length text))
+        refused-there = go (first_or_last text)
           where
-            go : Dec (end < length text) → first_refusal s (file_lines text) ≡ number n
-            go (yes h) = rw (lines_more_here text end f h) (refusal-here s (line_at text 0) _ a e n q)
-            go (no h) = rw (lines_last_here text end f (omega arith)) (refusal-here s (line_at text 0) _ a e n q)
+            go : ((rest : List ℕ) × LineBefore text rest) ⊎ (length text ≤ line_length text) → first_refusal s (file_lines text) ≡ number n
+            go (inl (rest, d)) = rw (lines_more_here text rest d) (refusal-here s (line_at text 0) _ a e n q)
+            go (inr h) = rw (lines_last_here text h) (refusal-here s (line_at text 0) _ a e n q)
 
         pub line-refusal : number n ≡ first_refusal r (file_lines file)
         line-refusal = sym refused-there ∙ c.same_refusal
@@ -168,7 +179,7 @@ module _ (file : List ℕ) (w : Bool) (size : ℕ) (r : Reader) (out : List ℕ)
       → Room w (last_reader s (file_lines text)) size (length mid)
   room_kept s text mid c m = rw (c.same_last, c.same_length) m
 
--- ---- the last reader, and the line at a position
+-- ---- the last reader, and the first line
 
 module _ (r : Reader) where
   pub not_done : (r.expected ≡ Nothing → ⊥) → Measured (Err BdfLine) r []
@@ -182,14 +193,8 @@ module _ (r : Reader) where
   unfolding first_refusal last_reader
   done h = record { code = rw h; last = λ s e. sym (ok_is r s e) }
 
-pub line_is : (text x : List ℕ) (end : ℕ) (r : Reader) (a : Result Answer Refusal) → end ≡ 0 + line_length text → x ≡ without_return (take end text) → a ≡ step r x → a ≡ step r (line_at text 0)
-line_is text x end r a e q f = let z : end - 0 ≡ end = omega arith in f ∙ ap (step r) (q ∙ ap without_return (rw z at (line_part text 0 end e)))
-
-pub line_within : (text : List ℕ) (end : ℕ) → end ≡ 0 + line_length text → end ≡ length (take end text)
-line_within text end e = sym (length-take-le end text (end_reach text 0 end (omega arith) e))
-
-pub line_ends : (text : List ℕ) (end : ℕ) → end ≡ 0 + line_length text → end ≡ line_length text
-line_ends text end e = omega arith
+pub line_is : (text line x : List ℕ) (r : Reader) (a : Result Answer Refusal) → line ≡ line_from text 0 → x ≡ without_return line → a ≡ step r x → a ≡ step r (line_at text 0)
+line_is text line x r a d q f = f ∙ ap (step r) (q ∙ ap without_return d)
 
 -- ---- bitmap lines one after another
 

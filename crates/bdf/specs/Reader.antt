@@ -34,6 +34,10 @@ place n = cond n.negative (origin - n.size) (origin + n.size)
 abbrev pub box : Number → Number → Number → Number → BoundingBox
 box w h x y = record { width = w.size; height = h.size; x = place x; y = place y }
 
+-- "a negative side", "An offset beyond ±1,000,000,000 is 20": what each box is asked
+unfoldable pub is_box : Number → Number → Number → Number → Bool
+is_box w h x y = all (not w.negative ∷ not h.negative ∷ is_offset x ∷ is_offset y ∷ [])
+
 -- "The baseline is cell height plus the box's vertical offset minus 1, at least 0"
 unfoldable pub baseline : BoundingBox → ℕ
 baseline cell = cell.height + cell.y - (origin + 1)

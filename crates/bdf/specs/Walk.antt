@@ -50,11 +50,15 @@ pub record LastLine (text : List ℕ) (writing : Bool) (size : ℕ) (r : Reader)
   pub same_last : s ≡ last_reader r (file_lines text)
   pub put_whole : exit ≡ put_lines_if writing size r (file_lines text) out
 
--- over a line: it is refused; or another follows; or it is the last
-pub record LineOver (text : List ℕ) (writing : Bool) (size : ℕ) (r : Reader) (out : List ℕ) (x : Result (Reader × ℕ) Refusal) (exit : List ℕ) : Type 0 where
-  pub refused : (n : Refusal) → x ≡ Err n → (number n ≡ first_refusal r (file_lines text)) × (exit ≡ out)
-  pub more : (s : Reader) (end : ℕ) → x ≡ Ok (s, end) → end < length text → Carries text writing size r out s (drop (end + 1) text) exit
-  pub last : (s : Reader) (end : ℕ) → x ≡ Ok (s, end) → length text ≤ end → LastLine text writing size r out s exit
+-- over a line to the reader s, with the rest after its feed
+pub record NextLine (text : List ℕ) (writing : Bool) (size : ℕ) (r : Reader) (out : List ℕ) (s : Reader) (rest exit : List ℕ) : Type 0 where
+  pub shorter : length rest < length text
+  pub carries : Carries text writing size r out s rest exit
+
+-- a line is refused
+pub record LineRefused (text : List ℕ) (r : Reader) (out : List ℕ) (n : Refusal) (exit : List ℕ) : Type 0 where
+  pub first : number n ≡ first_refusal r (file_lines text)
+  pub kept : exit ≡ out
 
 -- ---- bitmap lines
 

@@ -1,18 +1,18 @@
 // A font file, line by line: once tested and measured, once written.
-ghost use Rattle.std.specs.Prelude.{◌≡◌, ◌+◌, ◌≤◌, length, [], true, Ok};
+ghost use Rattle.std.specs.Prelude.{◌≡◌, ◌+◌, ◌≤◌, length, [], true, Ok, IfOk, IfErr, MatchOption};
 ghost use Rattle.characters.specs.Lines.{line_length};
 ghost use Rattle.bdf.specs.Reader.{start, in_bitmap, step, first_refusal, last_reader, file_lines};
-ghost use Rattle.bdf_lines.specs.Forms.{line_at};
-ghost use Rattle.bdf.specs.Walk.{Measured, put_if, put_lines_if, Room, Carries, LineOver, strip_of, put_strip_if, StripFits, put_spelling_if, SpellingFits, AnswerFits};
+ghost use Rattle.bdf_lines.specs.Forms.{line_at, LineBefore};
+ghost use Rattle.bdf.specs.Walk.{Measured, put_if, put_lines_if, Room, Carries, LineRefused, NextLine, LastLine, strip_of, put_strip_if, StripFits, put_spelling_if, SpellingFits, AnswerFits};
 
 use super::reader::{Answer, Expected, Reader, SoundReader};
 use super::{glyphs, usual};
 use bdf_lines::forms;
-use characters::lines::{line_end, without_return};
+use characters::lines::without_return;
 use refusals::Refusal;
 
 // Where the lines of a bitmap stand in the atlas: the row of the first, the pixels, and the bytes of a row.
-#[derive(Clone, Copy)]
+#[derive(Clone, Copy, Debug, PartialEq, Eq)]
 pub struct Strip {
     pub top: usize,
     pub left: usize,
@@ -21,21 +21,22 @@ pub struct Strip {
 }
 
 // A reader between two lines, and the rest of the file from the next line on.
-#[derive(Clone, Copy)]
+#[derive(Clone, Copy, Debug, PartialEq, Eq)]
 pub struct Position<'a> {
     pub reader: SoundReader,
     pub rest: &'a [u8],
 }
 
-// What the first line of the rest of a file does, and where it ends: at its feed, or at the file's end.
-fn first_line(text: &[u8], reader: SoundReader) -> (Result<Answer, Refusal>, usize)
-    ensures { (result.0 ≡ step reader.state (line_at text.now 0)) × (result.1 ≡ line_length text.now) }
+// What the first line of a text does, and what follows its feed, if a feed ends it.
+fn first_line(text: &[u8], reader: SoundReader) -> (Result<Answer, Refusal>, Option<&[u8]>)
+    ensures answer { result.0 ≡ step reader.state (line_at text.now 0) }
+    ensures rest { MatchOption result.1 (length text.now ≤ line_length text.now) (λ rest. LineBefore text.now rest.now) }
 {
-    let Some((answer, to)) = usual::answer_at(text, reader) else {
-        let end = line_end(text, 0);
-        return (reader.step(without_return(&text[..end])), end);
+    let Some((answer, rest)) = usual::answer_at(text, reader) else {
+        let (line, rest) = forms::split_line(text);
+        return (reader.step(without_return(line)), rest);
     };
-    (answer, to - 1)
+    (answer, Some(rest))
 }
 
 // Where the lines of the present glyph's bitmap stand in the atlas.
@@ -96,12 +97,12 @@ fn put_rows<'a>(
     let mut present = state;
     let mut rest = text;
     for read in state.read..state.bbx.height {
-        let Some((bits, end)) = forms::row_at(rest, width) else {
+        let Some((bits, behind)) = forms::row_at(rest, width) else {
             break;
         };
         put_row(pieces, writing, strip, read as usize, bits);
         present.read = read + 1;
-        rest = &rest[end + 1..];
+        rest = behind;
     }
     Position {
         reader: SoundReader { state: present },
@@ -158,32 +159,32 @@ fn put(pieces: &mut [u8], size: usize, writing: bool, reader: SoundReader, answe
     }
 }
 
-// Reads the first line of the rest of a file, and puts what it says, if it is written: the reader after it, and where it ends.
-fn put_line(
-    text: &[u8],
+// Reads the first line of a text, and puts what it says, if it is written: the reader after it, and what follows its feed, if a feed ends it.
+fn put_line<'a>(
+    text: &'a [u8],
     pieces: &mut [u8],
     size: usize,
     writing: bool,
     reader: SoundReader,
-) -> Result<(Reader, usize), Refusal>
+) -> Result<(Reader, Option<&'a [u8]>), Refusal>
     requires room { Room writing (last_reader reader.state (file_lines text.now)) size (length pieces.old) }
-    ensures { LineOver text.now writing size reader.state pieces.old result pieces.new }
+    ensures refused { IfErr result (λ n. LineRefused text.now reader.state pieces.old n pieces.new) }
+    ensures read { IfOk result (λ p. MatchOption p.1 (LastLine text.now writing size reader.state pieces.old p.0 pieces.new) (λ rest. NextLine text.now writing size reader.state pieces.old p.0 rest.now pieces.new)) }
 {
-    let (line, end) = first_line(text, reader);
+    let (line, rest) = first_line(text, reader);
     let answer = line?;
     put(pieces, size, writing, reader, answer);
-    Ok((answer.reader(), end))
+    Ok((answer.reader(), rest))
 }
 
 // What lines come to where there are no more.
 fn finished(reader: Reader) -> Result<Reader, Refusal>
     ensures { Measured result reader [] }
 {
-    let expected = reader.expected;
-    match expected {
-        Expected::Nothing => Ok(reader),
-        _ => Err(Refusal::BdfLine),
+    if reader.expected == Expected::Nothing {
+        return Ok(reader);
     }
+    Err(Refusal::BdfLine)
 }
 
 // Reads a file whole, and puts its atlas of `size` bytes and its mapping, if they are written: the reader after its last line.
@@ -200,16 +201,16 @@ pub fn pass(file: &[u8], pieces: &mut [u8], size: usize, writing: bool) -> Resul
         let position = rows_at(rest, pieces, size, writing, SoundReader { state: reader });
         let present = position.reader;
         let text = position.rest;
-        if let Some((next, to)) = usual::move_at(text, present.state) {
+        if let Some((next, behind)) = usual::move_at(text, present.state) {
             reader = next;
-            rest = &text[to..];
+            rest = behind;
             continue;
         }
-        let (next, end) = put_line(text, pieces, size, writing, present)?;
+        let (next, more) = put_line(text, pieces, size, writing, present)?;
+        let Some(behind) = more else {
+            return finished(next);
+        };
         reader = next;
-        if text.len() <= end {
-            return finished(reader);
-        }
-        rest = &text[end + 1..];
+        rest = behind;
     }
 }

@@ -1,12 +1,13 @@
 // Writing a font: a bitmap line in a row of the atlas, a character in the mapping, and the record.
-ghost use Rattle.std.specs.Prelude.{◌≡◌, ◌+◌, ◌≤◌, ◌++◌, length, replicate};
+ghost use Rattle.std.specs.Prelude.{◌≡◌, ◌≤◌, length, replicate};
 ghost use Rattle.geometry.specs.Layer.{map_indexed};
 ghost use Rattle.bdf.specs.Reader.{spelling};
-ghost use Rattle.bdf.specs.Font.{u16, u32, record_of};
-ghost use Rattle.bdf.specs.Stores.{put16, put32, metrics};
+ghost use Rattle.bdf.specs.Font.{record_of};
+ghost use Rattle.bdf.specs.Stores.{metrics};
 ghost use Rattle.bdf.specs.Writing.{with_bits, BitsFit, GoodCell};
 
-use super::reader::BoundingBox;
+use super::reader::{BoundingBox, ORIGIN};
+use geometry::store_bytes;
 
 // Puts the bits of a bitmap line into a row of the atlas, from pixel `left` up to `end`.
 pub fn put_bits(row: &mut [u8], left: usize, end: usize, bits: u64)
@@ -44,7 +45,8 @@ pub fn spelled_length(v: u32) -> u32
     4
 }
 
-// Spells a character in the part of a mapping that is its own.
+// Spells a character in the part of a mapping that is its own. By hand here and above, since a `char` would ask more than a number: a surrogate has
+// a spelling too.
 pub fn put_character(part: &mut [u8], v: u32)
     requires v_bound { v ≤ 0x10FFFF }
     requires part_len { length part.old ≡ length (spelling v) }
@@ -86,43 +88,6 @@ pub fn clear(atlas: &mut [u8])
     atlas.fill(0);
 }
 
-// Stores the two bytes of a number from `at` on.
-fn put_u16(output: &mut [u8], at: usize, n: u16)
-    requires { at + 2 ≤ length output.old }
-    ensures { output.new ≡ put16 output.old at n }
-{
-    output[at..at + 2].copy_from_slice(&n.to_le_bytes());
-}
-
-// Stores the four bytes of a number from `at` on.
-fn put_u32(output: &mut [u8], at: usize, n: u32)
-    requires { at + 4 ≤ length output.old }
-    ensures { output.new ≡ put32 output.old at n }
-{
-    output[at..at + 4].copy_from_slice(&n.to_le_bytes());
-}
-
-// Stores where atlas and mapping begin, and how long the atlas is.
-fn put_offsets(output: &mut [u8], atlas: u32)
-    requires output_len { length output.old ≡ 12 }
-    requires atlas_bound { atlas ≤ 100_000_000 }
-    ensures { output.new ≡ u32 28 ++ (u32 atlas ++ u32 (28 + atlas)) }
-{
-    put_u32(output, 0, 28);
-    put_u32(output, 4, atlas);
-    put_u32(output, 8, 28 + atlas);
-}
-
-// Stores the mapping's length, the replacement index and the atlas's width.
-fn put_counts(output: &mut [u8], mapping: u16, width: u16)
-    requires { length output.old ≡ 6 }
-    ensures { output.new ≡ u16 mapping ++ (u16 0 ++ u16 width) }
-{
-    put_u16(output, 0, mapping);
-    put_u16(output, 2, 0);
-    put_u16(output, 4, width);
-}
-
 // Stores the metrics of a cell: its sides, spacing, baseline, strikethrough and underline.
 fn put_metrics(output: &mut [u8], cell: BoundingBox)
     requires output_len { length output.old ≡ 10 }
@@ -132,7 +97,7 @@ fn put_metrics(output: &mut [u8], cell: BoundingBox)
     output[0] = cell.width as u8;
     output[1] = cell.height as u8;
     output[2] = 0;
-    output[3] = (cell.height + cell.y).saturating_sub(1000000001) as u8;
+    output[3] = (cell.height + cell.y).saturating_sub(ORIGIN + 1) as u8;
     output[4] = (cell.height.saturating_sub(1) / 2) as u8;
     output[5] = 1;
     output[6] = (cell.height + 1) as u8;
@@ -149,8 +114,12 @@ pub fn put_record(output: &mut [u8], cell: BoundingBox, atlas: u32, mapping: u32
     requires mapping_bound { mapping ≤ 65_535 }
     ensures { output.new ≡ record_of cell atlas mapping }
 {
-    put_offsets(&mut output[0..12], atlas);
+    store_bytes(output, 0, &28u32.to_le_bytes());
+    store_bytes(output, 4, &atlas.to_le_bytes());
+    store_bytes(output, 8, &(28 + atlas).to_le_bytes());
+    store_bytes(output, 12, &(mapping as u16).to_le_bytes());
+    store_bytes(output, 14, &0u16.to_le_bytes());
     let width = 16 * cell.width;
-    put_counts(&mut output[12..18], mapping as u16, width as u16);
+    store_bytes(output, 16, &(width as u16).to_le_bytes());
     put_metrics(&mut output[18..28], cell);
 }

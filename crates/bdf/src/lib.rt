@@ -15,7 +15,7 @@ pub mod reader;
 pub mod usual;
 
 // A font file that was tested, and the reader after its last line, which has measured its atlas and its mapping.
-#[derive(Clone, Copy)]
+#[derive(Clone, Copy, Debug, PartialEq, Eq)]
 struct MeasuredFile<'a> {
     file: &'a [u8],
     last: Reader,

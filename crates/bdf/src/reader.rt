@@ -4,15 +4,18 @@ ghost use Rattle.bdf_lines.specs.Keywords.{start_properties, chars};
 ghost use Rattle.bdf.specs.declared.reader.Expected.TheVariants.{Property, Glyph, Attributes, Rows};
 ghost use Rattle.bdf_lines.specs.Words.{words, count_of};
 ghost use Rattle.bdf.specs.Within.{Within, IsBox};
-ghost use Rattle.bdf.specs.Reader.{origin, place, box, is_cell, is_in_cell, is_character, expecting, leaving, moved, counted, cell_line, properties_line, spelling_line, encoding_line, bbx_line, row_line, line_step, in_bitmap, start, step, reader_of};
+ghost use Rattle.bdf.specs.Reader.{origin, place, box, is_box, is_cell, is_in_cell, is_character, expecting, leaving, moved, counted, cell_line, properties_line, spelling_line, encoding_line, bbx_line, row_line, line_step, in_bitmap, start, step, reader_of};
 
 use super::glyphs;
 use bdf_lines::values::{Four, Number};
 use bdf_lines::{values, words};
 use refusals::Refusal;
 
+// Offsets are counted from −1,000,000,000, so that each is a natural number.
+pub const ORIGIN: u32 = 1000000000;
+
 // A box: its sides, and the offsets of its lower left corner, counted from −1,000,000,000.
-#[derive(Clone, Copy)]
+#[derive(Clone, Copy, Debug, PartialEq, Eq)]
 pub struct BoundingBox {
     pub width: u32,
     pub height: u32,
@@ -21,7 +24,7 @@ pub struct BoundingBox {
 }
 
 // The line that is expected.
-#[derive(Clone, Copy)]
+#[derive(Clone, Copy, Debug, PartialEq, Eq)]
 pub enum Expected {
     StartFont,
     Font,
@@ -48,7 +51,7 @@ pub enum Expected {
 }
 
 // What is known before a line. `Within` is no invariant of it, since `expecting` makes states in which it does not hold.
-#[derive(Clone, Copy)]
+#[derive(Clone, Copy, Debug, PartialEq, Eq)]
 pub struct Reader {
     pub expected: Expected,
     // property lines to come, or glyphs
@@ -66,14 +69,14 @@ pub struct Reader {
 }
 
 // A reader between two lines: the facts of `Within` hold of its state.
-#[derive(Clone, Copy)]
+#[derive(Clone, Copy, Debug, PartialEq, Eq)]
 pub struct SoundReader {
     pub state: Reader,
     ghost within: { Within state },
 }
 
 // What a line does that is not refused: it leads to another state, and may say a glyph's encoding, its BBX, or a line of its bitmap.
-#[derive(Clone, Copy)]
+#[derive(Clone, Copy, Debug, PartialEq, Eq)]
 pub enum Answer {
     Passed(Reader),
     Boxed(Reader),
@@ -88,9 +91,9 @@ fn place(n: Number) -> u32
 {
     let size = n.size as u32;
     if n.negative {
-        return 1000000000 - size;
+        return ORIGIN - size;
     }
-    1000000000 + size
+    ORIGIN + size
 }
 
 // The box of four numbers.
@@ -108,14 +111,19 @@ fn box_of(four: Four) -> BoundingBox
     }
 }
 
+// Whether four numbers are a box: no side is negative, and no offset beyond ±1,000,000,000.
+fn is_box(four: Four) -> bool
+    ensures { result ≡ is_box four.width four.height four.x four.y }
+{
+    let limit = u64::from(ORIGIN);
+    !four.width.negative & !four.height.negative & (four.x.size <= limit) & (four.y.size <= limit)
+}
+
 // Whether four numbers are a cell within the limits.
 fn is_cell(four: Four) -> bool
     ensures { result ≡ is_cell four.width four.height four.x four.y }
 {
-    if four.width.negative {
-        return false;
-    }
-    if four.height.negative {
+    if !is_box(four) {
         return false;
     }
     if 64 < four.width.size {
@@ -124,14 +132,8 @@ fn is_cell(four: Four) -> bool
     if 64 < four.height.size {
         return false;
     }
-    if 1000000000 < four.x.size {
-        return false;
-    }
-    if 1000000000 < four.y.size {
-        return false;
-    }
     let height = four.height.size as u32;
-    height + place(four.y) <= 1000000256
+    height + place(four.y) <= ORIGIN + 256
 }
 
 // Whether a side from a place on ends no later than another.
@@ -150,16 +152,7 @@ fn reaches(from: u32, side: u64, start: u32, other: u32) -> bool
 fn is_in_cell(cell: BoundingBox, four: Four) -> bool
     ensures { result ≡ is_in_cell cell four.width four.height four.x four.y }
 {
-    if four.width.negative {
-        return false;
-    }
-    if four.height.negative {
-        return false;
-    }
-    if 1000000000 < four.x.size {
-        return false;
-    }
-    if 1000000000 < four.y.size {
+    if !is_box(four) {
         return false;
     }
     let left = place(four.x);
@@ -234,10 +227,7 @@ impl Reader {
     pub fn in_bitmap(self) -> bool
         ensures { result ≡ in_bitmap self }
     {
-        match self.expected {
-            Expected::Rows => self.read < self.bbx.height,
-            _ => false,
-        }
+        (self.expected == Expected::Rows) & (self.read < self.bbx.height)
     }
 
     // A line that only has to stand there.

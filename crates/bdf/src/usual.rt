@@ -1,5 +1,5 @@
-// What a glyph's lines in their usual form do, read at the head of the rest of a file. Any other form goes the general way.
-ghost use Rattle.std.specs.Prelude.{◌≡◌};
+// What a glyph's lines in their usual form do, read at the head of a text, and what follows their feed. Any other form goes the general way.
+ghost use Rattle.std.specs.Prelude.{◌≡◌, IfSome};
 ghost use Rattle.bdf.specs.declared.reader.Expected.TheVariants.{Glyph, Encoding, Bbx, Rows};
 ghost use Rattle.bdf.specs.Usual.{UsualMove, UsualAnswer};
 
@@ -7,82 +7,79 @@ use super::reader::{Answer, Expected, Reader, SoundReader};
 use bdf_lines::forms;
 use refusals::Refusal;
 
-// An empty line, or STARTCHAR, where a glyph is expected: the reader after it, and the position after its feed.
-fn glyph_move(text: &[u8], reader: Reader) -> Option<(Reader, usize)>
+// An empty line, or STARTCHAR, where a glyph is expected: the reader after it.
+fn glyph_move(text: &[u8], reader: Reader) -> Option<(Reader, &[u8])>
     requires { reader.expected ≡ Glyph }
-    ensures { UsualMove text.now reader result }
+    ensures { IfSome result (λ p. UsualMove text.now reader p.0 p.1.now) }
 {
-    if text.is_empty() {
-        return None;
-    }
-    if text[0] == b'\n' {
-        return Some((reader, 1));
+    if let [b'\n', rest @ ..] = text {
+        return Some((reader, rest));
     }
     let left = reader.left;
     if left == 0 {
         return None;
     }
-    let to = forms::start_char(text)?;
-    Some((reader.leaving(Expected::Encoding, left - 1), to))
+    let rest = forms::start_char(text)?;
+    Some((reader.leaving(Expected::Encoding, left - 1), rest))
 }
 
 // ENDCHAR, after the last bitmap line.
-fn end_move(text: &[u8], reader: Reader) -> Option<(Reader, usize)>
+fn end_move(text: &[u8], reader: Reader) -> Option<(Reader, &[u8])>
     requires { reader.expected ≡ Rows }
-    ensures { UsualMove text.now reader result }
+    ensures { IfSome result (λ p. UsualMove text.now reader p.0 p.1.now) }
 {
     if reader.read < reader.bbx.height {
         return None;
     }
-    let to = forms::end_char(text)?;
-    Some((reader.expecting(Expected::Glyph), to))
+    let rest = forms::end_char(text)?;
+    Some((reader.expecting(Expected::Glyph), rest))
 }
 
-// The first line, if it only leads to another state: that state, and the position after its feed.
-pub fn move_at(text: &[u8], reader: Reader) -> Option<(Reader, usize)>
-    ensures { UsualMove text.now reader result }
+// The first line, if it only leads to another state: that state.
+pub fn move_at(text: &[u8], reader: Reader) -> Option<(Reader, &[u8])>
+    ensures { IfSome result (λ p. UsualMove text.now reader p.0 p.1.now) }
 {
     let expected = reader.expected;
     match expected {
         Expected::Glyph => glyph_move(text, reader),
         Expected::Swidth => {
-            let to = forms::scalable_width(text)?;
-            Some((reader.expecting(Expected::Dwidth), to))
+            let rest = forms::scalable_width(text)?;
+            Some((reader.expecting(Expected::Dwidth), rest))
         }
         Expected::Dwidth => {
-            let to = forms::device_width(text)?;
-            Some((reader.expecting(Expected::Bbx), to))
+            let rest = forms::device_width(text)?;
+            Some((reader.expecting(Expected::Bbx), rest))
         }
         Expected::Attributes => {
-            let to = forms::bitmap_alone(text)?;
-            Some((reader.expecting(Expected::Rows), to))
+            let rest = forms::bitmap_alone(text)?;
+            Some((reader.expecting(Expected::Rows), rest))
         }
         Expected::Rows => end_move(text, reader),
         _ => None,
     }
 }
 
-// What ENCODING does, and the position after its feed.
-fn encoding_answer(text: &[u8], reader: SoundReader) -> Option<(Result<Answer, Refusal>, usize)>
+// What ENCODING does.
+fn encoding_answer(text: &[u8], reader: SoundReader) -> Option<(Result<Answer, Refusal>, &[u8])>
     requires { reader.state.expected ≡ Encoding }
-    ensures { UsualAnswer text.now reader.state result }
+    ensures { IfSome result (λ p. UsualAnswer text.now reader.state p.0 p.1.now) }
 {
-    let (n, to) = forms::encoding_at(text)?;
-    Some((reader.encoding_line(Some(n)), to))
+    let (n, rest) = forms::encoding_at(text)?;
+    Some((reader.encoding_line(Some(n)), rest))
 }
 
-// What BBX does, and the position after its feed.
-fn bbx_answer(text: &[u8], reader: SoundReader) -> Option<(Result<Answer, Refusal>, usize)>
+// What BBX does.
+fn bbx_answer(text: &[u8], reader: SoundReader) -> Option<(Result<Answer, Refusal>, &[u8])>
     requires { reader.state.expected ≡ Bbx }
-    ensures { UsualAnswer text.now reader.state result }
+    ensures { IfSome result (λ p. UsualAnswer text.now reader.state p.0 p.1.now) }
 {
-    let (four, to) = forms::bbx_at(text)?;
-    Some((reader.bbx_line(Some(four)), to))
+    let (four, rest) = forms::bbx_at(text)?;
+    Some((reader.bbx_line(Some(four)), rest))
 }
 
-// What ENCODING or BBX does, and the position after its feed.
-pub fn answer_at(text: &[u8], reader: SoundReader) -> Option<(Result<Answer, Refusal>, usize)>
-    ensures { UsualAnswer text.now reader.state result }
+// What ENCODING or BBX does.
+pub fn answer_at(text: &[u8], reader: SoundReader) -> Option<(Result<Answer, Refusal>, &[u8])>
+    ensures { IfSome result (λ p. UsualAnswer text.now reader.state p.0 p.1.now) }
 {
     let expected = reader.state.expected;
     match expected {

@@ -12,12 +12,13 @@ use lib.Seq.{get_or-take, drop-cons, take-take, length-take-le}
 use lib.Dec.{leb, eqb}
 use lib.Pow.{pow-add, shr_lt}
 use borrow.Author.Tests.{leb-true, eqb-true, eq-eqb, ne_eqb}
-use Rattle.std.specs.Prelude.{Option, Some, None}
+use Rattle.std.specs.Prelude.{Some, None}
 use Rattle.characters.specs.Lines.{line_length, without_return}
 use Rattle.characters.proofs.Feeds.{line_part, return_absent, return_dropped}
 use Rattle.bdf_lines.specs.Words.{is_digit, is_hex, hex_value, are_hex, hex_from, is_row, row_bits, row_of}
-use Rattle.bdf_lines.specs.Forms.{line_at, IsFeedAt, FeedFound, RowFound}
-use Rattle.bdf_lines.proofs.Stands.{not_some, at_is, found_is}
+use Rattle.std.proofs.lemmas.Option.{same_Some}
+use Rattle.bdf_lines.specs.Forms.{line_at, IsFeedAt, IsRow}
+use Rattle.bdf_lines.proofs.Stands.{not_some, part_rest}
 
 -- ---- the bits of a bitmap line
 
@@ -62,7 +63,7 @@ unfolding row_of
 bits_small width bits l e = go (is_row width l) refl e
   where
     go : (t : Bool) → is_row width l ≡ t → cond t (Some (row_bits width l)) None ≡ Some bits → bits < 2 ^ width
-    go true i q = rw (← at_is (row_bits width l) bits q) (row_bits_lem width l i)
+    go true i q = rw (← same_Some (row_bits width l) bits q) (row_bits_lem width l i)
     go false i q = absurd (not_some bits q)
 
 -- ---- a bitmap line, found by its digits
@@ -106,39 +107,30 @@ module _ (s : List ℕ) (i : ℕ) (h : i < length s) where
 
 -- ---- `feed_at`
 
-module _ (file : List ℕ) (at : ℕ) where
-  pub feed_none : FeedFound file at None
-  feed_none = record { found = λ k e. absurd (not_some k e) }
+module _ (text : List ℕ) (at : ℕ) where
+  pub feed_here : at < length text → get_or text at 0 ≡ 0x0A → IsFeedAt text at at
+  feed_here h e = record { inside = h; feed = e; place = inl refl }
 
-  feed-is : (end : ℕ) → IsFeedAt file at end → FeedFound file at (Some end)
-  feed-is end f = record { found = λ k e. rw (← at_is end k e) f }
-
-  pub feed_here : at < length file → get_or file at 0 ≡ 0x0A → FeedFound file at (Some at)
-  feed_here h e = feed-is at (record { inside = h; feed = e; place = inl refl })
-
-  pub feed_next : get_or file at 0 ≡ 0x0D → at + 1 < length file → get_or file (at + 1) 0 ≡ 0x0A → FeedFound file at (Some (at + 1))
-  feed_next r h e = feed-is (at + 1) (record { inside = h; feed = e; place = inr (refl, r) })
+  pub feed_next : get_or text at 0 ≡ 0x0D → at + 1 < length text → get_or text (at + 1) 0 ≡ 0x0A → IsFeedAt text at (at + 1)
+  feed_next r h e = record { inside = h; feed = e; place = inr (refl, r) }
 
 -- ---- `row_at`
 
 module _ (text : List ℕ) (width : ℕ) where
-  pub row_none : RowFound text 0 width None
-  row_none = record { found = λ bits stop e. absurd (not_some (bits, stop) e) }
-
   abbrev to : ℕ
   to = 2 * ((width + 7) / 8)
 
-  module _ (bits end : ℕ) (x : Option ℕ) (y : Option ℕ) (more : to < length text) (g : FeedFound text to y) (u : y ≡ Some end) (q : x ≡ row_of width (take to text)) (t : x ≡ Some bits) where
+  module _ (bits end : ℕ) (more : to < length text) (feed : IsFeedAt text to end) (q : row_of width (take to text) ≡ Some bits) where
     digits : List ℕ
     digits = take to text
 
     is-row : is_row width digits ≡ true
     unfolding digits row_of
-    is-row = go (is_row width digits) (sym t ∙ q)
+    is-row = go (is_row width digits) q
       where
-        go : (u : Bool) → Some bits ≡ cond u (Some (row_bits width digits)) None → u ≡ true
+        go : (u : Bool) → cond u (Some (row_bits width digits)) None ≡ Some bits → u ≡ true
         go true e = refl
-        go false e = absurd (not_some bits (sym e))
+        go false e = absurd (not_some bits e)
 
     are-hex : are_hex digits ≡ true
     unfolding is_row
@@ -147,9 +139,6 @@ module _ (text : List ℕ) (width : ℕ) where
     line-goes-on : line_length text ≡ to + line_length (drop to text)
     unfolding digits
     line-goes-on = hex_line to text are-hex (omega arith)
-
-    feed : IsFeedAt text to end
-    feed = g.found end u
 
     line-ends : end ≡ line_length text
     line-ends = go feed.place
@@ -166,12 +155,9 @@ module _ (text : List ℕ) (width : ℕ) where
         go (inl e) = let n : end - 0 ≡ to = omega arith in rw n (sym (return_absent digits (hex_no_return digits are-hex (length digits - 1))))
         go (inr (e, r)) = let n : end - 0 ≡ to + 1 = omega arith in rw n (return-cut text to more r)
 
-    pub row_found : RowFound text 0 width (Some (bits, end))
+    pub row_found : (rest : List ℕ) → rest ≡ take (length text - (end + 1)) (drop (end + 1) text) → IsRow text width bits rest
     unfolding digits
-    row_found = record {
-      found = λ v e p. rw (← (found_is bits v end e p).0, ← (found_is bits v end e p).1) (record {
-        ends = omega (arith, line-ends);
-        more = feed.inside;
-        bitmap = ap (row_of width) line-digits ∙ sym q ∙ t;
-      });
+    row_found rest d = record {
+      line = record { feed = omega (arith, line-ends, feed.inside); after = d ∙ part_rest text (end + 1) ∙ ap (λ (n : ℕ). drop (n + 1) text) line-ends };
+      bitmap = ap (row_of width) line-digits ∙ q;
     }

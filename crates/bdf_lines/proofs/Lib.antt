@@ -1,4 +1,4 @@
-pub mod Positions
+pub mod Rest
 pub mod Numbers
 pub mod Tables
 pub mod NumberLines

@@ -1,39 +1,38 @@
 -- Laws of lines that have numbers, which the functions read word by word. Assumes nothing.
 use Prim.Native.Nat.{ℕ, zero, suc, ◌+◌, ◌-◌, ◌≤◌, ◌<◌}
 use native.Mathlib.Omega.{arith}
-use mathlib.Core.Path.{◌≡◌, refl, sym, ap, ◌∙◌}
-use mathlib.Core.Bool.{Bool, true, false, not, cond, ◌&&◌, and-true, and-false}
+use mathlib.Core.Path.{◌≡◌, refl, ◌∙◌}
+use mathlib.Core.Bool.{Bool, true, false, not, cond, ◌&&◌, ◌||◌, and-true, and-false}
 use mathlib.Core.List.{List, [], ◌∷◌}
-use lib.ListN.{length, take, drop, length-drop, drop_of_length-le}
-use lib.Seq.{length-take-le}
-use lib.Dec.{eqb, leb}
-use borrow.Author.Tests.{leb-true, leb-false, eq-eqb, ne_eqb, not-true, not-false}
+use lib.ListN.{length}
+use lib.Dec.{eqb}
+use borrow.Author.Tests.{eq-eqb, ne_eqb, not-true, not-false}
 use Rattle.std.specs.Option.{is_some}
 use Rattle.std.specs.Prelude.{Option, Some, None}
+use Rattle.std.proofs.lemmas.Option.{some_pair_parts}
 use Rattle.bdf_lines.specs.declared.values.Four.{Four}
 use Rattle.bdf_lines.specs.declared.values.Number.{Number}
-use Rattle.bdf_lines.specs.Words.{four, words, same, number_of, is_value, are_numbers, has_numbers, as_count, count_of, all_four, four_numbers, four_of, minus_one, encoding_of, are_hex, is_hex_pair}
-use Rattle.bdf_lines.specs.Positions.{blanks, letters, word_end, is_none, after_word, found_at, number_at, hex_of}
-use Rattle.bdf_lines.proofs.Positions.{no_word, first_word, to_end, word_here, to_within, ReadsAfter, first_other, first_is, cond_same, cond_and}
+use Rattle.bdf_lines.specs.Words.{four, same, number_of, is_value, are_numbers, has_numbers, as_count, count_of, all_four, four_numbers, four_of, minus_one, encoding_of, are_hex, is_hex_pair}
+use Rattle.bdf_lines.specs.Rest.{is_none, after_word, number_before, first_number, hex_of}
+use Rattle.bdf_lines.proofs.Rest.{ReadsAfter, first_other, first_is, cond_same, cond_and}
 use Rattle.bdf_lines.proofs.Numbers.{hex_of_wrong, hex_of_bits}
 
--- ---- `number_at`: `from` and `to` are what `word_start` and `word_end` gave, and r what `number_of` gave
+-- ---- `first_number`
 
-module _ (l : List ℕ) (at from : ℕ) (f : from ≡ at + blanks (drop at l)) where
-  pub number_past : length l ≤ from → None ≡ number_at l at
-  unfolding number_at
-  number_past h = rw (no_word l at (omega arith))
+module _ (ws : List (List ℕ)) where
+  pub number_none : ws ≡ [] → first_number ws ≡ None
+  unfolding first_number
+  number_none e = rw e
 
-  module _ (to : ℕ) (g : to ≡ from + letters (drop from l)) (h : from < length l) (r : Option Number) (e : r ≡ number_of (take (to - from) (drop from l))) where
-    number-here : number_at l at ≡ found_at r to
-    unfolding number_at
-    number-here = rw (word_here l at from f to g h, ← e, ← to_end l at from f to g h)
+  -- r is what `number_of` gave of the first word
+  module _ (w : List ℕ) (vs : List (List ℕ)) (e : ws ≡ w ∷ vs) (r : Option Number) (f : r ≡ number_of w) where
+    pub number_wrong : r ≡ None → first_number ws ≡ None
+    unfolding first_number
+    number_wrong q = rw (e, ← f, q)
 
-    pub number_wrong : r ≡ None → None ≡ number_at l at
-    number_wrong q = rw (number-here, q)
-
-    pub number_found : {n : Number} → r ≡ Some n → Some (n, to) ≡ number_at l at
-    number_found q = rw (number-here, q)
+    pub number_found : {n : Number} → r ≡ Some n → first_number ws ≡ Some (n, vs)
+    unfolding first_number
+    number_found q = rw (e, ← f, q)
 
 -- ---- words that are numbers
 
@@ -47,29 +46,26 @@ abbrev if_number : {A : Type 0} → A → (Number → List (List ℕ) → A) →
 if_number other after [] = other
 if_number other after (w ∷ ws) = on_read other (λ n. after n ws) (number_of w)
 
--- x is what `number_at` gave
-module _ {A : Type 0} (other : A) (after : Number → List (List ℕ) → A) (l : List ℕ) (at : ℕ) {x : Option (Number × ℕ)} (e : x ≡ number_at l at) where
-  abbrev on_found : Option (Number × ℕ) → A
-  on_found (Some (n, next)) = after n (words (drop next l))
-  on_found None = other
-
-  by_number : on_found x ≡ if_number other after (words (drop at l))
-  unfolding number_at
-  by_number = ap on_found e ∙ go (leb (length l) (at + blanks (drop at l))) refl
+module _ {A : Type 0} (other : A) (after : Number → List (List ℕ) → A) where
+  number-other : (ws : List (List ℕ)) → first_number ws ≡ None → other ≡ if_number other after ws
+  unfolding first_number
+  number-other [] e = refl
+  number-other (w ∷ ws) e = go (number_of w) e
     where
-      on : (r : Option Number) → on_found (found_at r (word_end l at)) ≡ on_read other (λ n. after n (words (drop (word_end l at) l))) r
-      on (Some n) = refl
-      on None = refl
+      go : (r : Option Number) → number_before r ws ≡ None → other ≡ on_read other (λ n. after n ws) r
+      go (Some n) p = cc
+      go None p = refl
 
-      go : (t : Bool) → leb (length l) (at + blanks (drop at l)) ≡ t → on_found (number_at l at) ≡ if_number other after (words (drop at l))
-      go true h = rw (no_word l at (leb-true _ _ h))
-      go false h = rw (first_word l at (leb-false _ _ h)) (on (number_of (take (word_end l at - (at + blanks (drop at l))) (drop (at + blanks (drop at l)) l))))
-
-  number-other : x ≡ None → other ≡ if_number other after (words (drop at l))
-  number-other q = ap on_found (sym q) ∙ by_number
-
-  number_is : {n : Number} {next : ℕ} → x ≡ Some (n, next) → after n (words (drop next l)) ≡ if_number other after (words (drop at l))
-  number_is q = ap on_found (sym q) ∙ by_number
+  number_is : (ws : List (List ℕ)) {n : Number} {vs : List (List ℕ)} → first_number ws ≡ Some (n, vs) → after n vs ≡ if_number other after ws
+  unfolding first_number
+  number_is [] e = cc
+  number_is (w ∷ ws) {n} {vs} e = go (number_of w) e
+    where
+      go : (r : Option Number) → number_before r ws ≡ Some (n, vs) → after n vs ≡ on_read other (λ m. after m ws) r
+      go (Some m) p =
+          let e = some_pair_parts m n ws vs p in
+          rw (e.0, e.1)
+      go None p = cc
 
 -- what comes to the same in each case
 read_same : {A : Type 0} {other : A} {after : Number → A} (r : Option Number) → ((n : Number) → after n ≡ other) → on_read other after r ≡ other
@@ -98,28 +94,27 @@ no_numbers zero h [] = refl
 no_numbers zero h (w ∷ ws) = refl
 no_numbers (suc left) h ws = absurd (omega arith)
 
-module _ (k l : List ℕ) (n : ℕ) where
-  module _ {x : Option ℕ} (e : x ≡ after_word k l 0) where
-    pub numbers_other : x ≡ None → false ≡ has_numbers k n (words l)
-    numbers_other = first_other (has_numbers_lem k n) l 0 e
+module _ (k : List ℕ) (ws : List (List ℕ)) (n : ℕ) where
+  pub numbers_other : after_word k ws ≡ None → false ≡ has_numbers k n ws
+  numbers_other = first_other (has_numbers_lem k n) ws
 
-    pub numbers-start : {from : ℕ} → x ≡ Some from → are_numbers (n - 0) (words (drop from l)) ≡ has_numbers k n (words l)
-    numbers-start q = let z : n - 0 ≡ n = omega arith in rw z (first_is (has_numbers_lem k n) l 0 e q)
+  pub numbers-start : {vs : List (List ℕ)} → after_word k ws ≡ Some vs → are_numbers (n - 0) vs ≡ has_numbers k n ws
+  numbers-start q = let z : n - 0 ≡ n = omega arith in rw z (first_is (has_numbers_lem k n) ws q)
 
-  -- turn i at position `at`
-  module _ (at i : ℕ) (inv : are_numbers (n - i) (words (drop at l)) ≡ has_numbers k n (words l)) where
-    module _ (h : i < n) {x : Option (Number × ℕ)} (e : x ≡ number_at l at) where
-      by_first : if_number false (λ m. are_numbers (n - (i + 1))) (words (drop at l)) ≡ has_numbers k n (words l)
-      by_first = let q : n - (i + 1) ≡ n - i - 1 = omega arith in rw q (are_numbers_lem (n - i) (omega arith) (words (drop at l)) ∙ inv)
+  -- turn i at the words vs
+  module _ (vs : List (List ℕ)) (i : ℕ) (inv : are_numbers (n - i) vs ≡ has_numbers k n ws) where
+    module _ (h : i < n) where
+      by_first : if_number false (λ m. are_numbers (n - (i + 1))) vs ≡ has_numbers k n ws
+      by_first = let q : n - (i + 1) ≡ n - i - 1 = omega arith in rw q (are_numbers_lem (n - i) (omega arith) vs ∙ inv)
 
-      pub numbers_wrong : x ≡ None → false ≡ has_numbers k n (words l)
-      numbers_wrong q = number-other false (λ m. are_numbers (n - (i + 1))) l at e q ∙ by_first
+      pub numbers_wrong : first_number vs ≡ None → false ≡ has_numbers k n ws
+      numbers_wrong q = number-other false (λ m. are_numbers (n - (i + 1))) vs q ∙ by_first
 
-      pub numbers_again : {m : Number} {next : ℕ} → x ≡ Some (m, next) → are_numbers (n - (i + 1)) (words (drop next l)) ≡ has_numbers k n (words l)
-      numbers_again q = number_is false (λ m. are_numbers (n - (i + 1))) l at e q ∙ by_first
+      pub numbers_again : {m : Number} {us : List (List ℕ)} → first_number vs ≡ Some (m, us) → are_numbers (n - (i + 1)) us ≡ has_numbers k n ws
+      numbers_again q = number_is false (λ m. are_numbers (n - (i + 1))) vs q ∙ by_first
 
-    pub numbers_end : n ≤ i → (t : Bool) → t ≡ is_none (words (drop at l)) → t ≡ has_numbers k n (words l)
-    numbers_end h t d = d ∙ no_numbers (n - i) (omega arith) (words (drop at l)) ∙ inv
+    pub numbers_end : n ≤ i → (t : Bool) → t ≡ is_none vs → t ≡ has_numbers k n ws
+    numbers_end h t d = d ∙ no_numbers (n - i) (omega arith) vs ∙ inv
 
 -- ---- `count_of`
 
@@ -140,28 +135,37 @@ count_of_lem k = record { none = refl; first = go }
     go w (v ∷ []) = rw (as_count_lem (number_of v))
     go w (v ∷ u ∷ ws) = rw (read_same {A = Option ℕ} {other = None} (number_of v) (λ n. refl)) (cond_same (same w k) _)
 
-module _ (k l : List ℕ) {x : Option ℕ} (e : x ≡ after_word k l 0) where
-  pub count_other : x ≡ None → None ≡ count_of k (words l)
-  count_other = first_other (count_of_lem k) l 0 e
+module _ (k : List ℕ) (ws : List (List ℕ)) where
+  pub count_other : after_word k ws ≡ None → None ≡ count_of k ws
+  count_other = first_other (count_of_lem k) ws
 
-  module _ {from : ℕ} (q : x ≡ Some from) {y : Option (Number × ℕ)} (f : y ≡ number_at l from) where
-    pub count_wrong : y ≡ None → None ≡ count_of k (words l)
-    count_wrong p = number-other None count_after l from f p ∙ first_is (count_of_lem k) l 0 e q
+  module _ {vs : List (List ℕ)} (q : after_word k ws ≡ Some vs) where
+    pub count_wrong : first_number vs ≡ None → None ≡ count_of k ws
+    count_wrong p = number-other None count_after vs p ∙ first_is (count_of_lem k) ws q
 
-    module _ {n : Number} {end : ℕ} (p : y ≡ Some (n, end)) (t : Bool) (d : t ≡ is_none (words (drop end l))) where
-      count_by : cond t (as_count (Some n)) None ≡ count_of k (words l)
-      count_by = rw d (number_is None count_after l from f p) ∙ first_is (count_of_lem k) l 0 e q
+    -- t is what `is_end` gave
+    module _ {n : Number} {us : List (List ℕ)} (p : first_number vs ≡ Some (n, us)) (t : Bool) (d : t ≡ is_none us) where
+      count_by : cond t (as_count (Some n)) None ≡ count_of k ws
+      count_by = rw d (number_is None count_after vs p) ∙ first_is (count_of_lem k) ws q
 
-      pub count_more : not t ≡ true → None ≡ count_of k (words l)
-      count_more o = rw (not-true t o) at count_by
+      pub count_not : (n.negative || not t) ≡ true → None ≡ count_of k ws
+      count_not o = go n.negative t o ∙ count_by
+        where
+          go : (m u : Bool) → (m || not u) ≡ true → None ≡ cond u (cond m None (Some n.size)) None
+          go true true f = refl
+          go true false f = refl
+          go false true f = cc
+          go false false f = refl
 
-      pub count_negative : not t ≡ false → n.negative ≡ true → None ≡ count_of k (words l)
-      count_negative o s = rw (not-false t o, s) at count_by
+      pub count_is : (n.negative || not t) ≡ false → Some n.size ≡ count_of k ws
+      count_is o = go n.negative t o ∙ count_by
+        where
+          go : (m u : Bool) → (m || not u) ≡ false → Some n.size ≡ cond u (cond m None (Some n.size)) None
+          go true u f = cc
+          go false true f = refl
+          go false false f = cc
 
-      pub count_is : not t ≡ false → n.negative ≡ false → Some n.size ≡ count_of k (words l)
-      count_is o s = rw (not-false t o, s) at count_by
-
--- ---- `four_at`
+-- ---- `four_numbers`
 
 -- what comes after d, after c, after b and after a
 abbrev four_end : Number → Number → Number → Number → List (List ℕ) → Option Four
@@ -194,40 +198,42 @@ four-numbers (w ∷ v ∷ u ∷ x ∷ []) = all-four (number_of w) (number_of v)
 four-numbers (w ∷ v ∷ u ∷ x ∷ y ∷ ws) =
     read_same (number_of w) (λ a. read_same (number_of v) (λ b. read_same (number_of u) (λ c. read_same (number_of x) (λ d. refl))))
 
-module _ (l : List ℕ) (from : ℕ) {x₁ : Option (Number × ℕ)} (e₁ : x₁ ≡ number_at l from) where
-  pub four_wrong_first : x₁ ≡ None → None ≡ four_numbers (words (drop from l))
-  four_wrong_first p = number-other None four_second l from e₁ p ∙ four-numbers (words (drop from l))
+module _ (ws : List (List ℕ)) where
+  pub four_wrong_first : first_number ws ≡ None → None ≡ four_numbers ws
+  four_wrong_first p = number-other None four_second ws p ∙ four-numbers ws
 
-  module _ {a : Number} {second : ℕ} (q₁ : x₁ ≡ Some (a, second)) {x₂ : Option (Number × ℕ)} (e₂ : x₂ ≡ number_at l second) where
-    from_second : four_second a (words (drop second l)) ≡ four_numbers (words (drop from l))
-    from_second = number_is None four_second l from e₁ q₁ ∙ four-numbers (words (drop from l))
+  module _ {a : Number} {ws₁ : List (List ℕ)} (q₁ : first_number ws ≡ Some (a, ws₁)) where
+    from_second : four_second a ws₁ ≡ four_numbers ws
+    from_second = number_is None four_second ws q₁ ∙ four-numbers ws
 
-    pub four_wrong_second : x₂ ≡ None → None ≡ four_numbers (words (drop from l))
-    four_wrong_second p = number-other None (four_third a) l second e₂ p ∙ from_second
+    pub four_wrong_second : first_number ws₁ ≡ None → None ≡ four_numbers ws
+    four_wrong_second p = number-other None (four_third a) ws₁ p ∙ from_second
 
-    module _ {b : Number} {third : ℕ} (q₂ : x₂ ≡ Some (b, third)) {x₃ : Option (Number × ℕ)} (e₃ : x₃ ≡ number_at l third) where
-      from-third : four_third a b (words (drop third l)) ≡ four_numbers (words (drop from l))
-      from-third = number_is None (four_third a) l second e₂ q₂ ∙ from_second
+    module _ {b : Number} {ws₂ : List (List ℕ)} (q₂ : first_number ws₁ ≡ Some (b, ws₂)) where
+      from-third : four_third a b ws₂ ≡ four_numbers ws
+      from-third = number_is None (four_third a) ws₁ q₂ ∙ from_second
 
-      pub four_wrong_third : x₃ ≡ None → None ≡ four_numbers (words (drop from l))
-      four_wrong_third p = number-other None (four_fourth a b) l third e₃ p ∙ from-third
+      pub four_wrong_third : first_number ws₂ ≡ None → None ≡ four_numbers ws
+      four_wrong_third p = number-other None (four_fourth a b) ws₂ p ∙ from-third
 
-      module _ {c : Number} {fourth : ℕ} (q₃ : x₃ ≡ Some (c, fourth)) {x₄ : Option (Number × ℕ)} (e₄ : x₄ ≡ number_at l fourth) where
-        from-fourth : four_fourth a b c (words (drop fourth l)) ≡ four_numbers (words (drop from l))
-        from-fourth = number_is None (four_fourth a b) l third e₃ q₃ ∙ from-third
+      module _ {c : Number} {ws₃ : List (List ℕ)} (q₃ : first_number ws₂ ≡ Some (c, ws₃)) where
+        from-fourth : four_fourth a b c ws₃ ≡ four_numbers ws
+        from-fourth = number_is None (four_fourth a b) ws₂ q₃ ∙ from-third
 
-        pub four_wrong_fourth : x₄ ≡ None → None ≡ four_numbers (words (drop from l))
-        four_wrong_fourth p = number-other None (four_end a b c) l fourth e₄ p ∙ from-fourth
+        pub four_wrong_fourth : first_number ws₃ ≡ None → None ≡ four_numbers ws
+        four_wrong_fourth p = number-other None (four_end a b c) ws₃ p ∙ from-fourth
 
-        module _ {d : Number} {end : ℕ} (q₄ : x₄ ≡ Some (d, end)) (t : Bool) (f : t ≡ is_none (words (drop end l))) where
-          from_end : cond t (Some (four a b c d)) None ≡ four_numbers (words (drop from l))
-          from_end = rw f (number_is None (four_end a b c) l fourth e₄ q₄) ∙ from-fourth
+        module _ {d : Number} {ws₄ : List (List ℕ)} (q₄ : first_number ws₃ ≡ Some (d, ws₄)) where
+          -- t is what `is_end` gave
+          module _ (t : Bool) (f : t ≡ is_none ws₄) where
+            from_end : cond t (Some (four a b c d)) None ≡ four_numbers ws
+            from_end = rw f (number_is None (four_end a b c) ws₃ q₄) ∙ from-fourth
 
-          pub four_is : not t ≡ false → Some (four a b c d) ≡ four_numbers (words (drop from l))
-          four_is o = rw (not-false t o) at from_end
+            pub four_is : not t ≡ false → Some (four a b c d) ≡ four_numbers ws
+            four_is o = rw (not-false t o) at from_end
 
-          pub four_more : not t ≡ true → None ≡ four_numbers (words (drop from l))
-          four_more o = rw (not-true t o) at from_end
+            pub four_more : not t ≡ true → None ≡ four_numbers ws
+            four_more o = rw (not-true t o) at from_end
 
 -- ---- `four_of`
 
@@ -235,12 +241,12 @@ four_of_lem : (k : List ℕ) → ReadsAfter k None four_numbers (four_of k)
 unfolding four_of
 four_of_lem k = record { none = refl; first = λ w ws. refl }
 
-module _ (k l : List ℕ) {x : Option ℕ} (e : x ≡ after_word k l 0) where
-  pub four_other : x ≡ None → None ≡ four_of k (words l)
-  four_other = first_other (four_of_lem k) l 0 e
+module _ (k : List ℕ) (ws : List (List ℕ)) where
+  pub four_other : after_word k ws ≡ None → None ≡ four_of k ws
+  four_other = first_other (four_of_lem k) ws
 
-  pub four-after : {from : ℕ} → x ≡ Some from → (r : Option Four) → r ≡ four_numbers (words (drop from l)) → r ≡ four_of k (words l)
-  four-after q r p = p ∙ first_is (four_of_lem k) l 0 e q
+  pub four-after : {vs : List (List ℕ)} → after_word k ws ≡ Some vs → (r : Option Four) → r ≡ four_numbers vs → r ≡ four_of k ws
+  four-after q r p = p ∙ first_is (four_of_lem k) ws q
 
 -- ---- `encoding_of`
 
@@ -270,42 +276,52 @@ encoding_of_lem k = record { none = refl; first = go }
     go w (v ∷ u ∷ []) = rw (two-numbers (number_of v) (number_of u))
     go w (v ∷ u ∷ x ∷ ws) = rw (read_same {A = Option Number} {other = None} (number_of v) (λ n. read_same (number_of u) (λ m. refl))) (cond_same (same w k) _)
 
-module _ (k l : List ℕ) {x : Option ℕ} (e : x ≡ after_word k l 0) where
-  pub encoding_other : x ≡ None → None ≡ encoding_of k (words l)
-  encoding_other = first_other (encoding_of_lem k) l 0 e
+module _ (k : List ℕ) (ws : List (List ℕ)) where
+  pub encoding_other : after_word k ws ≡ None → None ≡ encoding_of k ws
+  encoding_other = first_other (encoding_of_lem k) ws
 
-  module _ {from : ℕ} (q : x ≡ Some from) {y : Option (Number × ℕ)} (f : y ≡ number_at l from) where
-    pub encoding_wrong : y ≡ None → None ≡ encoding_of k (words l)
-    encoding_wrong p = number-other None encoding_after l from f p ∙ first_is (encoding_of_lem k) l 0 e q
+  module _ {vs : List (List ℕ)} (q : after_word k ws ≡ Some vs) where
+    pub encoding_wrong : first_number vs ≡ None → None ≡ encoding_of k ws
+    encoding_wrong p = number-other None encoding_after vs p ∙ first_is (encoding_of_lem k) ws q
 
-    module _ {n : Number} {second : ℕ} (p : y ≡ Some (n, second)) (t : Bool) (d : t ≡ is_none (words (drop second l))) where
-      after_first : cond t (Some n) (if_number None (encoding_end n) (words (drop second l))) ≡ encoding_of k (words l)
-      after_first = rw d (number_is None encoding_after l from f p) ∙ first_is (encoding_of_lem k) l 0 e q
+    -- t is what `is_end` gave
+    module _ {n : Number} {us : List (List ℕ)} (p : first_number vs ≡ Some (n, us)) (t : Bool) (d : t ≡ is_none us) where
+      after_first : cond t (Some n) (if_number None (encoding_end n) us) ≡ encoding_of k ws
+      after_first = rw d (number_is None encoding_after vs p) ∙ first_is (encoding_of_lem k) ws q
 
-      pub encoding_one : t ≡ true → Some n ≡ encoding_of k (words l)
+      pub encoding_one : t ≡ true → Some n ≡ encoding_of k ws
       encoding_one o = rw o at after_first
 
-      module _ (o : t ≡ false) {z : Option (Number × ℕ)} (g : z ≡ number_at l second) where
-        after-second : if_number None (encoding_end n) (words (drop second l)) ≡ encoding_of k (words l)
+      module _ (o : t ≡ false) where
+        after-second : if_number None (encoding_end n) us ≡ encoding_of k ws
         after-second = rw o at after_first
 
-        pub encoding_wrong_second : z ≡ None → None ≡ encoding_of k (words l)
-        encoding_wrong_second b = number-other None (encoding_end n) l second g b ∙ after-second
+        pub encoding_wrong_second : first_number us ≡ None → None ≡ encoding_of k ws
+        encoding_wrong_second b = number-other None (encoding_end n) us b ∙ after-second
 
-        module _ {m : Number} {end : ℕ} (b : z ≡ Some (m, end)) (u : Bool) (h : u ≡ is_none (words (drop end l))) where
-          by_sign : cond u (cond (n.negative && eqb n.size 1) (Some n) None) None ≡ encoding_of k (words l)
-          by_sign = rw h (number_is None (encoding_end n) l second g b) ∙ after-second
+        module _ {m : Number} {ts : List (List ℕ)} (b : first_number us ≡ Some (m, ts)) (u : Bool) (h : u ≡ is_none ts) where
+          by_sign : cond u (cond (n.negative && eqb n.size 1) (Some n) None) None ≡ encoding_of k ws
+          by_sign = rw h (number_is None (encoding_end n) us b) ∙ after-second
 
-          pub encoding_more : not u ≡ true → None ≡ encoding_of k (words l)
-          encoding_more c = rw (not-true u c) at by_sign
+          pub encoding-two : (u && n.negative && eqb n.size 1) ≡ true → Some n ≡ encoding_of k ws
+          encoding-two c = go u n.negative (eqb n.size 1) c ∙ by_sign
+            where
+              go : (u v w : Bool) → (u && v && w) ≡ true → Some n ≡ cond u (cond (v && w) (Some n) None) None
+              go true true true e = refl
+              go true true false e = cc
+              go true false w e = cc
+              go false v w e = cc
 
-          pub encoding-two : not u ≡ false → (n.negative && eqb n.size 1) ≡ true → Some n ≡ encoding_of k (words l)
-          encoding-two c s = rw (not-false u c, s) at by_sign
+          pub encoding-not : (u && n.negative && eqb n.size 1) ≡ false → None ≡ encoding_of k ws
+          encoding-not c = go u n.negative (eqb n.size 1) c ∙ by_sign
+            where
+              go : (u v w : Bool) → (u && v && w) ≡ false → None ≡ cond u (cond (v && w) (Some n) None) None
+              go true true true e = cc
+              go true true false e = refl
+              go true false w e = refl
+              go false v w e = refl
 
-          pub encoding_sign : not u ≡ false → (n.negative && eqb n.size 1) ≡ false → None ≡ encoding_of k (words l)
-          encoding_sign c s = rw (not-false u c, s) at by_sign
-
--- ---- `is_attributes`: `from` and `to` are what `word_start` and `word_end` gave, and t what `is_end` gave
+-- ---- `is_attributes`
 
 -- four hexadecimal digits and no more
 hex_alone : List (List ℕ) → Bool
@@ -321,60 +337,27 @@ hex_pair k = record { none = refl; first = go }
     go w (v ∷ []) = cond_and (same w k) (eqb (length v) 4 && are_hex v)
     go w (v ∷ u ∷ ws) = cond_same (same w k) _
 
--- a word of four letters begins within the line
-pub long_within : (l : List ℕ) (from to : ℕ) → to ≡ from + letters (drop from l) → to - from ≡ 4 → from < length l
-unfolding letters
-long_within l from to g h = go (leb (length l) from) refl
-  where
-    go : (t : Bool) → leb (length l) from ≡ t → from < length l
-    go true e = absurd (omega (arith, rw (drop_of_length-le l (leb-true _ _ e)) at g))
-    go false e = leb-false _ _ e
+module _ (k : List ℕ) (ws : List (List ℕ)) where
+  pub attributes_other : after_word k ws ≡ None → false ≡ is_hex_pair k ws
+  attributes_other = first_other (hex_pair k) ws
 
-module _ (k l : List ℕ) {x : Option ℕ} (e : x ≡ after_word k l 0) where
-  pub attributes_other : x ≡ None → false ≡ is_hex_pair k (words l)
-  attributes_other = first_other (hex_pair k) l 0 e
-
-  module _ {at : ℕ} (q : x ≡ Some at) {from : ℕ} (f : from ≡ at + blanks (drop at l)) {to : ℕ} (g : to ≡ from + letters (drop from l)) (t : Bool) (d : t ≡ is_none (words (drop to l))) where
-    digits_here : Bool
-    digits_here = cond t (eqb (to - from) 4 && are_hex (take (to - from) (drop from l))) false
-
-    word-alone : from < length l → digits_here ≡ hex_alone (words (drop at l))
-    unfolding digits_here hex_alone
-    word-alone h =
-        let n : length (take (to - from) (drop from l)) ≡ to - from = length-take-le (to - from) (drop from l) (omega (arith, to_within l at from f to g h, length-drop from l)) in
-        rw (word_here l at from f to g h, n, d)
-
-    hex-alone : digits_here ≡ false → false ≡ hex_alone (words (drop at l))
+  module _ {vs : List (List ℕ)} (q : after_word k ws ≡ Some vs) where
+    pub attributes_end : vs ≡ [] → false ≡ is_hex_pair k ws
     unfolding hex_alone
-    hex-alone p = go (leb (length l) from) refl
-      where
-        go : (t : Bool) → leb (length l) from ≡ t → false ≡ hex_alone (words (drop at l))
-        go true h = rw (no_word l at (rw f at (leb-true (length l) from h)))
-        go false h = sym p ∙ word-alone (leb-false _ _ h)
+    attributes_end e = rw e at (first_is (hex_pair k) ws q)
 
-    not-pair : digits_here ≡ false → false ≡ is_hex_pair k (words l)
-    not-pair p = hex-alone p ∙ first_is (hex_pair k) l 0 e q
+    module _ (w : List ℕ) (us : List (List ℕ)) (e : vs ≡ w ∷ us) where
+      by_word : cond (is_none us) (eqb (length w) 4 && are_hex w) false ≡ is_hex_pair k ws
+      unfolding hex_alone
+      by_word = rw e at (first_is (hex_pair k) ws q)
 
-    pub attributes_more : not t ≡ true → false ≡ is_hex_pair k (words l)
-    unfolding digits_here
-    attributes_more o = not-pair (rw (not-true t o))
+      pub attributes-length : (length w ≡ 4 → ⊥) → false ≡ is_hex_pair k ws
+      attributes-length n = cond_same (is_none us) false ∙ rw (ne_eqb (length w) 4 n) at by_word
 
-    pub attributes-length : (to - from ≡ 4 → ⊥) → false ≡ is_hex_pair k (words l)
-    unfolding digits_here
-    attributes-length n = not-pair (rw (ne_eqb (to - from) 4 n) (sym (cond_same t false)))
-
-    module _ (h : to - from ≡ 4) {y : Option ℕ} (c : y ≡ hex_of (take (to - from) (drop from l))) where
-      attributes_wrong : y ≡ None → false ≡ is_hex_pair k (words l)
-      unfolding digits_here
-      attributes_wrong p = not-pair (rw (hex_of_wrong _ c p, and-false (eqb (to - from) 4)) (sym (cond_same t false)))
-
-      attributes_is : not t ≡ false → {v : ℕ} → y ≡ Some v → true ≡ is_hex_pair k (words l)
-      unfolding digits_here
-      attributes_is o p = rw (not-false t o, eq-eqb (to - from) 4 h, hex_of_bits _ c p) at (word-alone (long_within l from to g h)) ∙ first_is (hex_pair k) l 0 e q
-
-      pub attributes_if : not t ≡ false → (r : Bool) → r ≡ is_some y → r ≡ is_hex_pair k (words l)
-      attributes_if o r p = p ∙ go y refl
+      -- t is what `is_end` gave, and y what `hexadecimal` gave
+      pub attributes_if : length w ≡ 4 → (t : Bool) → t ≡ is_none us → (y : Option ℕ) → y ≡ hex_of w → (r : Bool) → r ≡ is_some y → (t && r) ≡ is_hex_pair k ws
+      attributes_if h t d y c r p = rw (d, p) (go y refl ∙ rw (eq-eqb (length w) 4 h) at by_word)
         where
-          go : (z : Option ℕ) → y ≡ z → is_some z ≡ is_hex_pair k (words l)
-          go None f = attributes_wrong f
-          go (Some v) f = attributes_is o f
+          go : (z : Option ℕ) → y ≡ z → (is_none us && is_some y) ≡ cond (is_none us) (are_hex w) false
+          go None f = rw (f, hex_of_wrong w c f) (cond_and (is_none us) false)
+          go (Some v) f = rw (f, hex_of_bits w c f) (cond_and (is_none us) true)

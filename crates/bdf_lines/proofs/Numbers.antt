@@ -17,7 +17,7 @@ use Rattle.std.specs.Int.{from_bool}
 use Rattle.std.specs.Prelude.{Option, Some, None}
 use Rattle.bdf_lines.specs.declared.values.Number.{Number}
 use Rattle.bdf_lines.specs.Words.{is_digit, are_digits, decimal_from, most, signed, digits_of, number_of, is_hex, hex_value, are_hex, hex_from, is_row, row_bits, row_of}
-use Rattle.bdf_lines.specs.Positions.{hex_of}
+use Rattle.bdf_lines.specs.Rest.{hex_of}
 use Rattle.bdf_lines.specs.Table.{digit_value, IsTable}
 
 pub lt_or_le : (a b : ℕ) → (a < b) ⊎ (b ≤ a)

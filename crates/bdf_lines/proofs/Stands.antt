@@ -1,4 +1,4 @@
--- Laws of bytes and numbers that are found where they stand in a file. Assumes nothing.
+-- Laws of numbers at the head of a text. Assumes nothing.
 use Prim.Native.Nat.{ℕ, ◌+◌, ◌-◌, ◌*◌, ◌≤◌, ◌<◌, min}
 use native.Mathlib.Omega.{arith}
 use native.Mathlib.Numerals.{add-one}
@@ -6,48 +6,22 @@ use mathlib.Core.Path.{◌≡◌, refl, sym, ap, ◌∙◌}
 use mathlib.Core.Bool.{Bool, true, false, not, cond, ◌&&◌, ◌||◌, or-true, true≢false, and-eq-true_iff}
 use mathlib.Core.List.{List, [], ◌∷◌, ◌++◌}
 use lib.ListN.{length, take, drop, get_or, length-drop, length-append}
-use lib.Seq.{drop-cons}
+use lib.Seq.{drop-cons, take_all}
 use lib.Dec.{eqb, ltb}
 use borrow.Author.Tests.{eqb-true, eq-eqb, ne_eqb}
-use lib.Pointwise.{pointwise}
-use Rattle.std.specs.Option.{is_some, unwrap_or}
-use Rattle.std.specs.Prelude.{Option, Some, None}
-use Rattle.std.proofs.lemmas.Bool.Decides.{Decides-eqb}
-use Rattle.std.proofs.lemmas.Slice.Eq.{starts_is}
+use Rattle.std.specs.Option.{is_some}
+use Rattle.std.specs.Prelude.{Some, None}
 use Rattle.bdf_lines.specs.declared.values.Number.{Number}
 use Rattle.bdf_lines.specs.Words.{is_digit, are_digits, decimal_from, most, signed, digits_of, number_of}
-use Rattle.bdf_lines.specs.Stands.{BytesFound, DigitsFound, NumberFound}
+use Rattle.bdf_lines.specs.Stands.{DigitsAt, NumberAt}
 use Rattle.bdf_lines.proofs.Numbers.{clipped, digit_low}
-
--- ---- answers told apart
-
-pub at_is : (end to : ℕ) → Some end ≡ Some to → end ≡ to
-at_is end to e = ap (λ (x : Option ℕ). unwrap_or x 0) e
 
 pub not_some : {A : Type 0} (x : A) → None ≡ Some x → ⊥
 not_some x e = true≢false (sym (ap is_some e))
 
-pub found_is : {A B : Type 0} (a b : A) (end to : B) → ◌≡◌ {A = Option (A × B)} (Some (a, end)) (Some (b, to)) → (a ≡ b) × (end ≡ to)
-found_is {A} {B} a b end to e =
-    let pair : A × B = (a, end) in
-    (ap (λ (x : Option (A × B)). (unwrap_or x pair).0) e, ap (λ (x : Option (A × B)). (unwrap_or x pair).1) e)
-
--- ---- `after_bytes`
-
-module _ (file : List ℕ) (at : ℕ) (bytes : List ℕ) where
-  pub bytes_none : BytesFound file at bytes None
-  bytes_none = record { found = λ to e. absurd (not_some to e) }
-
--- r is what `starts_with` says
-pub bytes_found : (text bytes : List ℕ) (r : Bool) → r ≡ pointwise eqb bytes (take (length bytes) text) → r ≡ true → BytesFound text 0 bytes (Some (length bytes))
-bytes_found text bytes r same is =
-    let starts : text ≡ bytes ++ drop (length bytes) text = (starts_is Decides-eqb text bytes r same).0 is in
-    record {
-      found = λ to e. rw (← at_is (length bytes) to e) (record {
-        here = starts;
-        inside = omega (arith, ap length starts, length-append bytes (drop (length bytes) text));
-      });
-    }
+-- the rest of a text from a position on
+pub part_rest : (text : List ℕ) (to : ℕ) → take (length text - to) (drop to text) ≡ drop to text
+part_rest text to = take_all (length text - to) (drop to text) (omega (arith, length-drop to text))
 
 -- ---- `digits_to`: a turn at position i
 
@@ -82,9 +56,6 @@ digits_number minus [] v h d e = absurd (omega arith)
 digits_number minus (b ∷ s) v h d e = rw (d, e)
 
 module _ (file : List ℕ) (from : ℕ) (minus : Bool) (stop : ℕ) where
-  pub digits_none : DigitsFound file from minus stop None
-  digits_none = record { found = λ n to e. absurd (not_some (n, to) e) }
-
   stops : (b i : ℕ) → (not (eqb b stop) || eqb i from) ≡ false → b ≡ stop
   stops b i e = go (eqb b stop) refl (eqb i from) e
     where
@@ -96,7 +67,7 @@ module _ (file : List ℕ) (from : ℕ) (minus : Bool) (stop : ℕ) where
   some-digit b i e q = true≢false (sym (or-true (not (eqb b stop))) ∙ rw (eq-eqb i from q) at e)
 
   pub digits_found : (i v : ℕ) → Running file from i v → v ≤ most → i < length file → (not (eqb (get_or file i 0) stop) || eqb i from) ≡ false
-      → DigitsFound file from minus stop (Some ((record { negative = minus && ltb 0 v; size = v }), i + 1))
+      → DigitsAt file from minus stop (record { negative = minus && ltb 0 v; size = v }) (i + 1)
   unfolding signed are_digits decimal_from
   digits_found i v r m h t =
       let e = stops (get_or file i 0) i t in
@@ -105,12 +76,10 @@ module _ (file : List ℕ) (from : ℕ) (minus : Bool) (stop : ℕ) where
       let clip : min v most ≡ v = omega arith in
       let long : 0 < length run.word = omega (arith, r.onward, length-drop from file, length-drop i file, ap length run.here, length-append run.word (drop i file)) in
       record {
-        found = λ k to q. rw (← (found_is _ k (i + 1) to q).0, ← (found_is _ k (i + 1) to q).1) (record {
-          word = run.word;
-          number = digits_number minus run.word v long run.digits (run.value ∙ clip);
-          here = run.here ∙ ap (λ (t : List ℕ). run.word ++ t) (drop-cons file i 0 h ∙ rw (e, add-one i));
-          inside = omega arith;
-        });
+        word = run.word;
+        number = digits_number minus run.word v long run.digits (run.value ∙ clip);
+        here = run.here ∙ ap (λ (t : List ℕ). run.word ++ t) (drop-cons file i 0 h ∙ rw (e, add-one i));
+        inside = omega arith;
       }
 
 -- ---- `number_to`
@@ -130,24 +99,20 @@ plain_number (b ∷ s) n e = go (are_digits (b ∷ s)) refl e
     go true a q = rw (ne_eqb b 0x2D (λ f. absurd (omega (arith, digit_low b (digits_first b s a), f)))) e
     go false a q = absurd (not_some n q)
 
-module _ (file : List ℕ) (from stop : ℕ) (x : Option (Number × ℕ)) where
-  pub number_minus : DigitsFound file (from + 1) true stop x → from < length file → get_or file from 0 ≡ 0x2D → NumberFound file from stop x
+module _ (file : List ℕ) (from stop : ℕ) (n : Number) (to : ℕ) where
+  pub number_minus : from < length file → get_or file from 0 ≡ 0x2D → DigitsAt file (from + 1) true stop n to → NumberAt file from stop n to
   unfolding number_of
-  number_minus d h b = record {
-    found = λ n to q. let f = d.found n to q in record {
-      word = 0x2D ∷ f.word;
-      number = f.number;
-      here = drop-cons file from 0 h ∙ rw (b, ← add-one from) (ap (λ (t : List ℕ). 0x2D ∷ t) f.here);
-      inside = f.inside;
-    };
+  number_minus h b d = record {
+    word = 0x2D ∷ d.word;
+    number = d.number;
+    here = drop-cons file from 0 h ∙ rw (b, ← add-one from) (ap (λ (t : List ℕ). 0x2D ∷ t) d.here);
+    inside = d.inside;
   }
 
-  pub number_plain : DigitsFound file from false stop x → NumberFound file from stop x
-  number_plain d = record {
-    found = λ n to q. let f = d.found n to q in record {
-      word = f.word;
-      number = plain_number f.word n f.number;
-      here = f.here;
-      inside = f.inside;
-    };
-  }
+  pub number_plain : DigitsAt file from false stop n to → NumberAt file from stop n to
+  number_plain d = record { word = d.word; number = plain_number d.word n d.number; here = d.here; inside = d.inside }
+
+-- a text that begins with a byte
+pub first_byte : (text : List ℕ) (b : ℕ) → 1 ≤ length text → get_or text 0 0 ≡ b → text ≡ b ∷ take (length text - 1) (drop 1 text)
+first_byte [] b h e = absurd (omega arith)
+first_byte (c ∷ s) b h e = rw (e, take_all (length (c ∷ s) - 1) s (omega arith))

@@ -5,21 +5,25 @@ use mathlib.Core.Path.{◌≡◌, refl, sym, ap, ◌∙◌}
 use mathlib.Core.Bool.{Bool, true, false, not, cond, ◌&&◌, ◌||◌, true≢false, and-eq-true_iff}
 use mathlib.Core.List.{List, [], ◌∷◌, ◌++◌, map, append-nil, append_assoc}
 use lib.ListN.{length, take, drop, get_or, length-drop, length-append}
-use lib.Seq.{drop-cons}
+use lib.Seq.{drop-cons, drop-drop, drop-append-add}
 use lib.Dec.{eqb, ltb}
 use borrow.Author.Tests.{eqb-true, eq-eqb, ne_eqb, ltb-true, lt-ltb}
+use denote.Ref.{Bor}
+use Rattle.std.specs.Option.{MatchOption, IfSome}
+use lib.Pointwise.{pointwise}
+use Rattle.std.proofs.lemmas.Slice.Eq.{strip_prefix_is}
+use Rattle.std.proofs.lemmas.Bool.Decides.{Decides-eqb}
 use Rattle.std.specs.Prelude.{Option, Some, None}
 use Rattle.characters.specs.Lines.{before, line_length, line_from, without_return}
-use Rattle.characters.proofs.Feeds.{return_absent}
-use Rattle.bdf_lines.specs.declared.values.Four.{Four}
+use Rattle.characters.proofs.Feeds.{return_absent, length_to_feed}
 use Rattle.bdf_lines.specs.declared.values.Number.{Number}
 use Rattle.bdf_lines.specs.Words.{four, is_blank, begins_word, words, same, is_alone, is_named, is_digit, are_digits, digits_of, number_of, are_numbers, has_numbers, four_numbers, four_of, encoding_of}
 use Rattle.bdf_lines.specs.Keywords.{start_char, swidth, dwidth, bitmap, end_char, encoding, bbx}
-use Rattle.bdf_lines.specs.Forms.{line_at, LineTo, UsualLine, UsualEncoding, UsualBbx}
-use Rattle.bdf_lines.specs.Stands.{Stands, BytesFound, IsNumber, NumberFound, is_clear, is_plain, Spells, SpellsNumbers, TwoFound, TwoMore}
-use Rattle.bdf_lines.proofs.Positions.{split}
+use Rattle.bdf_lines.specs.Forms.{line_at, LineBefore, UsualLine, UsualEncoding, UsualBbx}
+use Rattle.bdf_lines.specs.Stands.{NumberAt, is_clear, is_plain, Spells, SpellsNumbers, TwoAfter}
+use Rattle.bdf_lines.proofs.Rest.{split}
 use Rattle.bdf_lines.proofs.Numbers.{digit_low}
-use Rattle.bdf_lines.proofs.Stands.{not_some, at_is, found_is}
+use Rattle.bdf_lines.proofs.Stands.{not_some, part_rest}
 
 -- ---- bytes of words
 
@@ -116,9 +120,9 @@ clear_line (b ∷ t) s e =
     let c = (and-eq-true_iff (not (eqb b 0x0A || eqb b 0x0D)) (is_clear t)).0 e in
     rw (no_feed b c.0) (ap (λ (l : List ℕ). b ∷ l) (clear_line t s c.1))
 
-line_from_lem : (file s : List ℕ) (at : ℕ) → drop at file ≡ s → line_from file at ≡ line_from s 0
-unfolding line_from
-line_from_lem file s at e = rw e
+-- what stands behind a line and its feed
+drop_behind : (t rest : List ℕ) → drop (length t + 1) (t ++ (0x0A ∷ rest)) ≡ rest
+drop_behind t rest = drop-append-add t (0x0A ∷ rest) 1
 
 clear_no_return : (t : List ℕ) → is_clear t ≡ true → (i : ℕ) → get_or t i 0 ≡ 0x0D → ⊥
 unfolding is_clear
@@ -126,69 +130,71 @@ clear_no_return [] e i q = absurd (omega arith)
 clear_no_return (b ∷ t) e zero q = true≢false (sym (rw (q) at ((and-eq-true_iff (not (eqb b 0x0A || eqb b 0x0D)) (is_clear t)).0 e).0))
 clear_no_return (b ∷ t) e (suc i) q = clear_no_return t ((and-eq-true_iff (not (eqb b 0x0A || eqb b 0x0D)) (is_clear t)).0 e).1 i q
 
-module _ (file : List ℕ) (at : ℕ) (ws : List (List ℕ)) (to : ℕ) (s : Spells file at ws to) where
-  line-length : line_length (drop at file) ≡ length s.line
+module _ (text rest : List ℕ) (ws : List (List ℕ)) (s : Spells text ws rest) where
+  line-length : line_length text ≡ length s.line
   unfolding line_length
-  line-length = rw s.here (omega (arith, clear_length s.line (0x0A ∷ drop to file) s.clear))
+  line-length = rw s.here (omega (arith, clear_length s.line (0x0A ∷ rest) s.clear))
 
-  spells-to : LineTo file at to
-  spells-to = record {
-    ends = omega (arith, line-length, ap length s.here, length-append s.line (0x0A ∷ drop to file), length-drop at file, length-drop to file, s.inside);
-    inside = s.inside;
+  spells-line : LineBefore text rest
+  spells-line = record {
+    feed = omega (arith, line-length, ap length s.here, length-append s.line (0x0A ∷ rest));
+    after = rw (line-length, s.here) (sym (drop_behind s.line rest));
   }
 
-  line_is : line_from file at ≡ s.line
+  line_is : line_from text 0 ≡ s.line
   unfolding line_from line_length
-  line_is = line_from_lem file (s.line ++ (0x0A ∷ drop to file)) at s.here ∙ clear_line s.line (0x0A ∷ drop to file) s.clear ∙ append-nil s.line
+  line_is = ap (λ (t : List ℕ). line_from t 0) s.here ∙ clear_line s.line (0x0A ∷ rest) s.clear ∙ append-nil s.line
 
-  spells-words : words (line_at file at) ≡ ws
+  spells-words : words (line_at text 0) ≡ ws
   spells-words = rw (line_is, ← return_absent s.line (clear_no_return s.line s.clear (length s.line - 1))) s.are
 
 -- ---- words one after another
 
 -- a word before a feed
-spells_last : (file : List ℕ) (at to b : ℕ) (w : List ℕ) → is_plain (b ∷ w) ≡ true → drop at file ≡ (b ∷ w) ++ (0x0A ∷ drop to file) → to ≤ length file → Spells file at ((b ∷ w) ∷ []) to
+spells_last : (text rest : List ℕ) (b : ℕ) (w : List ℕ) → is_plain (b ∷ w) ≡ true → text ≡ (b ∷ w) ++ (0x0A ∷ rest) → Spells text ((b ∷ w) ∷ []) rest
 unfolding words begins_word
-spells_last file at to b w p e h = record {
+spells_last text rest b w p e = record {
   line = b ∷ w;
   clear = plain_clear (b ∷ w) p;
   here = e;
-  inside = h;
   are = ap words (sym (append-nil (b ∷ w))) ∙ word_before b w [] p refl;
 }
 
 -- a word before a blank
-spells_more : (file : List ℕ) (at next to b : ℕ) (w : List ℕ) (ws : List (List ℕ)) → is_plain (b ∷ w) ≡ true → drop at file ≡ (b ∷ w) ++ (0x20 ∷ drop next file)
-    → Spells file next ws to → Spells file at ((b ∷ w) ∷ ws) to
+spells_more : (text behind rest : List ℕ) (b : ℕ) (w : List ℕ) (ws : List (List ℕ)) → is_plain (b ∷ w) ≡ true → text ≡ (b ∷ w) ++ (0x20 ∷ behind)
+    → Spells behind ws rest → Spells text ((b ∷ w) ∷ ws) rest
 unfolding words begins_word is_clear is_blank
-spells_more file at next to b w ws p e s = record {
+spells_more text behind rest b w ws p e s = record {
   line = (b ∷ w) ++ (0x20 ∷ s.line);
   clear = clear_both (b ∷ w) (0x20 ∷ s.line) (plain_clear (b ∷ w) p) s.clear;
-  here = e ∙ ap (λ (t : List ℕ). (b ∷ w) ++ (0x20 ∷ t)) s.here ∙ sym (append_assoc (b ∷ w) (0x20 ∷ s.line) (0x0A ∷ drop to file));
-  inside = s.inside;
+  here = e ∙ ap (λ (t : List ℕ). (b ∷ w) ++ (0x20 ∷ t)) s.here ∙ sym (append_assoc (b ∷ w) (0x20 ∷ s.line) (0x0A ∷ rest));
   are = word_before b w (0x20 ∷ s.line) p refl ∙ ap (λ (vs : List (List ℕ)). (b ∷ w) ∷ vs) s.are;
 }
 
 -- ---- numbers one after another
 
-module _ (file : List ℕ) (at next : ℕ) (n : Number) where
-  numbers-last : IsNumber file at 0x0A n next → SpellsNumbers file at (n ∷ []) next
+module _ (file : List ℕ) (at to : ℕ) (n : Number) where
+  numbers-last : NumberAt file at 0x0A n to → SpellsNumbers (drop at file) (n ∷ []) (drop to file)
   unfolding number_of
   numbers-last i = go i.word i.number i.here
     where
-      go : (w : List ℕ) → number_of w ≡ Some n → drop at file ≡ w ++ (0x0A ∷ drop next file) → SpellsNumbers file at (n ∷ []) next
+      go : (w : List ℕ) → number_of w ≡ Some n → drop at file ≡ w ++ (0x0A ∷ drop to file) → SpellsNumbers (drop at file) (n ∷ []) (drop to file)
       go [] e h = absurd (not_some n e)
-      go (b ∷ w) e h = record { ws = (b ∷ w) ∷ []; spells = spells_last file at next b w (number_plain (b ∷ w) n e) h i.inside; numbers = ap (λ (r : Option Number). r ∷ []) e }
+      go (b ∷ w) e h = record {
+        ws = (b ∷ w) ∷ [];
+        spells = spells_last (drop at file) (drop to file) b w (number_plain (b ∷ w) n e) h;
+        numbers = ap (λ (r : Option Number). r ∷ []) e;
+      }
 
-  numbers_more : (ns : List Number) (to : ℕ) → IsNumber file at 0x20 n next → SpellsNumbers file next ns to → SpellsNumbers file at (n ∷ ns) to
+  numbers_more : (ns : List Number) (rest : List ℕ) → NumberAt file at 0x20 n to → SpellsNumbers (drop to file) ns rest → SpellsNumbers (drop at file) (n ∷ ns) rest
   unfolding number_of
-  numbers_more ns to i s = go i.word i.number i.here
+  numbers_more ns rest i s = go i.word i.number i.here
     where
-      go : (w : List ℕ) → number_of w ≡ Some n → drop at file ≡ w ++ (0x20 ∷ drop next file) → SpellsNumbers file at (n ∷ ns) to
+      go : (w : List ℕ) → number_of w ≡ Some n → drop at file ≡ w ++ (0x20 ∷ drop to file) → SpellsNumbers (drop at file) (n ∷ ns) rest
       go [] e h = absurd (not_some n e)
       go (b ∷ w) e h = record {
         ws = (b ∷ w) ∷ s.ws;
-        spells = spells_more file at next to b w s.ws (number_plain (b ∷ w) n e) h s.spells;
+        spells = spells_more (drop at file) (drop to file) rest b w s.ws (number_plain (b ∷ w) n e) h s.spells;
         numbers = ap (λ (r : Option Number). r ∷ map number_of s.ws) e ∙ ap (λ (rs : List (Option Number)). Some n ∷ rs) s.numbers;
       }
 
@@ -200,13 +206,13 @@ same_word [] = refl
 same_word (b ∷ w) = rw (eq-eqb b b refl, same_word w)
 
 -- a keyword before a blank
-after_keyword : (file : List ℕ) (at next to b : ℕ) (k : List ℕ) (ws : List (List ℕ)) → is_plain (b ∷ k) ≡ true → Stands file at ((b ∷ k) ++ (0x20 ∷ [])) next
-    → Spells file next ws to → Spells file at ((b ∷ k) ∷ ws) to
-after_keyword file at next to b k ws p t s = spells_more file at next to b k ws p (t.here ∙ append_assoc (b ∷ k) (0x20 ∷ []) (drop next file)) s
+after_keyword : (text behind rest : List ℕ) (b : ℕ) (k : List ℕ) (ws : List (List ℕ)) → is_plain (b ∷ k) ≡ true → text ≡ ((b ∷ k) ++ (0x20 ∷ [])) ++ behind
+    → Spells behind ws rest → Spells text ((b ∷ k) ∷ ws) rest
+after_keyword text behind rest b k ws p t s = spells_more text behind rest b k ws p (t ∙ append_assoc (b ∷ k) (0x20 ∷ []) behind) s
 
 -- a keyword before a feed
-keyword_alone : (file : List ℕ) (at to b : ℕ) (k : List ℕ) → is_plain (b ∷ k) ≡ true → Stands file at ((b ∷ k) ++ (0x0A ∷ [])) to → Spells file at ((b ∷ k) ∷ []) to
-keyword_alone file at to b k p t = spells_last file at to b k p (t.here ∙ append_assoc (b ∷ k) (0x0A ∷ []) (drop to file)) t.inside
+keyword_alone : (text rest : List ℕ) (b : ℕ) (k : List ℕ) → is_plain (b ∷ k) ≡ true → text ≡ ((b ∷ k) ++ (0x0A ∷ [])) ++ rest → Spells text ((b ∷ k) ∷ []) rest
+keyword_alone text rest b k p t = spells_last text rest b k p (t ∙ append_assoc (b ∷ k) (0x0A ∷ []) rest)
 
 -- ---- the numbers of a line of that form
 
@@ -274,118 +280,121 @@ start_clear : is_clear (start_char ++ (0x20 ∷ [])) ≡ true
 unfolding is_clear
 start_clear = refl
 
--- ---- `two_numbers`, `scalable_width`, `device_width`
+-- ---- `strip_prefix`
 
-module _ (file : List ℕ) (at : ℕ) where
-  pub line_none : (test : List (List ℕ) → Bool) → UsualLine file at test None
-  line_none test = record { found = λ to e. absurd (not_some to e) }
+-- what it says of the rest
+pub stripped : (text bytes : List ℕ) (r : Bor (List ℕ))
+    → (pointwise eqb (take (length bytes) text) bytes ≡ true) × (r.now ≡ drop (length bytes) text) × (length r.now + length bytes ≡ length text) → text ≡ bytes ++ r.now
+stripped text bytes r e = strip_prefix_is Decides-eqb text bytes (Some r) e
 
-  module _ (name : List ℕ) where
-    pub two_none : TwoFound file at name None
-    two_none = record { found = λ b k p e. line_none (has_numbers (b ∷ k) 2) }
+-- what follows from what a clause says of the value, if there is one
+pub on_value : {X : Type 0} (x : Option X) (P : Type 0) (Q : X → Type 0) {R : X → Type 0} → MatchOption x P Q → ((y : X) → Q y → R y) → IfSome x R
+on_value None P Q e f = tt
+on_value (Some y) P Q e f = f y e
 
-    pub two_found : (first second end : ℕ) (m n : Number) (x : Option ℕ) (y z : Option (Number × ℕ)) → BytesFound file at name x → x ≡ Some first
-        → NumberFound file first 0x20 y → y ≡ Some (m, second) → NumberFound file second 0x0A z → z ≡ Some (n, end) → TwoFound file at name (Some end)
-    unfolding has_numbers
-    two_found first second end m n x y z bx ex by ey bz ez = record {
-      found = λ b k p e. record {
-        found = λ to q.
-            let s = numbers_more file first second m (n ∷ []) end (by.found m second ey) (numbers-last file second end n (bz.found n end ez)) in
-            let t = after_keyword file at first end b k s.ws p (rw e at (bx.found first ex)) s.spells in
-            rw (← at_is end to q) (spells-to file at ((b ∷ k) ∷ s.ws) end t, rw (spells-words file at ((b ∷ k) ∷ s.ws) end t, same_word (b ∷ k)) (two_are s.ws m n s.numbers));
-      };
+-- ---- `split_line`
+
+module _ (text line : List ℕ) (n : ℕ) (e : n ≡ line_length text) where
+  pub line_first : line ≡ take n text → line ≡ line_from text 0
+  unfolding line_from
+  line_first d = rw (d, e)
+
+  pub line_within : n ≤ length text
+  line_within = omega (arith, length_to_feed text)
+
+  -- what stands from the line's end on, and the rest after its feed
+  module _ (behind : List ℕ) (d : behind ≡ drop n text) where
+    pub line_before : (rest : List ℕ) → 1 ≤ length behind → rest ≡ take (length behind - 1) (drop 1 behind) → LineBefore text rest
+    line_before rest h f = record {
+      feed = omega (arith, ap length d, length-drop n text);
+      after =
+          let ahead : drop 1 behind ≡ drop (line_length text + 1) text = rw (d, e) (drop-drop 1 (line_length text) text) in
+          f ∙ part_rest behind 1 ∙ ahead;
     }
 
-  pub scalable_found : (x : Option ℕ) → TwoFound file at (swidth ++ (0x20 ∷ [])) x → UsualLine file at (has_numbers swidth 2) x
-  unfolding is_plain
-  scalable_found x t = t.found _ _ refl refl
+-- ---- `two_numbers`, `scalable_width`, `device_width`
 
-  pub device_found : (x : Option ℕ) → TwoFound file at (dwidth ++ (0x20 ∷ [])) x → UsualLine file at (has_numbers dwidth 2) x
-  unfolding is_plain
-  device_found x t = t.found _ _ refl refl
-
-  -- ---- `bitmap_alone`, `end_char`
-
-  alone-found : (b : ℕ) (k : List ℕ) (x : Option ℕ) → is_plain (b ∷ k) ≡ true → BytesFound file at ((b ∷ k) ++ (0x0A ∷ [])) x → UsualLine file at (is_alone (b ∷ k)) x
-  unfolding is_alone
-  alone-found b k x p t = record {
-    found = λ to q.
-        let s = keyword_alone file at to b k p (t.found to q) in
-        (spells-to file at ((b ∷ k) ∷ []) to s, rw (spells-words file at ((b ∷ k) ∷ []) to s) (same_word (b ∷ k)));
+module _ (text : List ℕ) where
+  pub two_after : (name behind rest : List ℕ) (second end : ℕ) (m n : Number) → text ≡ name ++ behind → NumberAt behind 0 0x20 m second → NumberAt behind second 0x0A n end
+      → rest ≡ take (length behind - end) (drop end behind) → TwoAfter text name rest
+  two_after name behind rest second end m n e f g d = record {
+    first = m;
+    second = n;
+    behind = behind;
+    here = e;
+    are = rw (d, part_rest behind end) (numbers_more behind 0 second m (n ∷ []) (drop end behind) f (numbers-last behind second end n g));
   }
 
-  pub bitmap_found : (x : Option ℕ) → BytesFound file at (bitmap ++ (0x0A ∷ [])) x → UsualLine file at (is_alone bitmap) x
-  unfolding is_plain
-  bitmap_found x = alone-found _ _ x refl
+  module _ (rest : List ℕ) where
+    two_found : (b : ℕ) (k : List ℕ) → is_plain (b ∷ k) ≡ true → TwoAfter text ((b ∷ k) ++ (0x20 ∷ [])) rest → UsualLine text (has_numbers (b ∷ k) 2) rest
+    unfolding has_numbers
+    two_found b k p t =
+        let s = after_keyword text t.behind rest b k t.are.ws p t.here t.are.spells in
+        record {
+          line = spells-line text rest ((b ∷ k) ∷ t.are.ws) s;
+          passes = rw (spells-words text rest ((b ∷ k) ∷ t.are.ws) s, same_word (b ∷ k)) (two_are t.are.ws t.first t.second t.are.numbers);
+        }
 
-  pub end_found : (x : Option ℕ) → BytesFound file at (end_char ++ (0x0A ∷ [])) x → UsualLine file at (is_alone end_char) x
-  unfolding is_plain
-  end_found x = alone-found _ _ x refl
+    pub scalable_found : TwoAfter text (swidth ++ (0x20 ∷ [])) rest → UsualLine text (has_numbers swidth 2) rest
+    unfolding is_plain
+    scalable_found = two_found _ _ refl
 
-  -- ---- `encoding_at`
+    pub device_found : TwoAfter text (dwidth ++ (0x20 ∷ [])) rest → UsualLine text (has_numbers dwidth 2) rest
+    unfolding is_plain
+    device_found = two_found _ _ refl
 
-  pub encoding_none : UsualEncoding file at None
-  encoding_none = record { found = λ n to e. absurd (not_some (n, to) e) }
+    -- ---- `bitmap_alone`, `end_char`
 
-  pub encoding_found : (first : ℕ) (x : Option ℕ) (y : Option (Number × ℕ)) → BytesFound file at (encoding ++ (0x20 ∷ [])) x → x ≡ Some first → NumberFound file first 0x0A y → UsualEncoding file at y
-  unfolding is_plain
-  encoding_found first x y bx ex by = record {
-    found = λ n to q.
-        let s = numbers-last file first to n (by.found n to q) in
-        let t = after_keyword file at first to _ _ s.ws refl (bx.found first ex) s.spells in
-        (spells-to file at (encoding ∷ s.ws) to t, rw (spells-words file at (encoding ∷ s.ws) to t) (one_is encoding s.ws n s.numbers));
-  }
+    alone-found : (b : ℕ) (k : List ℕ) → is_plain (b ∷ k) ≡ true → text ≡ ((b ∷ k) ++ (0x0A ∷ [])) ++ rest → UsualLine text (is_alone (b ∷ k)) rest
+    unfolding is_alone
+    alone-found b k p e =
+        let s = keyword_alone text rest b k p e in
+        record { line = spells-line text rest ((b ∷ k) ∷ []) s; passes = rw (spells-words text rest ((b ∷ k) ∷ []) s) (same_word (b ∷ k)) }
 
-  -- ---- `two_more`, `bbx_at`
+    pub bitmap_found : text ≡ (bitmap ++ (0x0A ∷ [])) ++ rest → UsualLine text (is_alone bitmap) rest
+    unfolding is_plain
+    bitmap_found = alone-found _ _ refl
 
-  pub more_none : (a b : Number) → TwoMore file at a b None
-  more_none a b = record { found = λ p q c d to e. absurd (not_some (four p q c d, to) e) }
+    pub end_found : text ≡ (end_char ++ (0x0A ∷ [])) ++ rest → UsualLine text (is_alone end_char) rest
+    unfolding is_plain
+    end_found = alone-found _ _ refl
 
-  pub more_found : (a b c d : Number) (fourth end : ℕ) (y z : Option (Number × ℕ)) → NumberFound file at 0x20 y → y ≡ Some (c, fourth) → NumberFound file fourth 0x0A z → z ≡ Some (d, end)
-      → TwoMore file at a b (Some (four a b c d, end))
-  more_found a b c d fourth end y z by ey bz ez = record {
-    found = λ p q u v to e.
-        let is = found_is (four a b c d) (four p q u v) end to e in
-        let third : c ≡ u = ap (λ (f : Four). f.x) is.0 in
-        let last : d ≡ v = ap (λ (f : Four). f.y) is.0 in
-        let s = numbers_more file at fourth c (d ∷ []) end (by.found c fourth ey) (numbers-last file fourth end d (bz.found d end ez)) in
-        (sym (ap (λ (f : Four). f.width) is.0), (sym (ap (λ (f : Four). f.height) is.0), rw (third, last, is.1) at s));
-  }
+    -- ---- `encoding_at`
 
-  pub bbx_none : UsualBbx file at None
-  bbx_none = record { found = λ a b c d to e. absurd (not_some (four a b c d, to) e) }
+    pub encoding_found : (behind : List ℕ) (end : ℕ) (n : Number) → text ≡ (encoding ++ (0x20 ∷ [])) ++ behind → NumberAt behind 0 0x0A n end
+        → rest ≡ take (length behind - end) (drop end behind) → UsualEncoding text n rest
+    unfolding is_plain
+    encoding_found behind end n e f d =
+        let s : SpellsNumbers behind (n ∷ []) rest = rw (d, part_rest behind end) (numbers-last behind 0 end n f) in
+        let t = after_keyword text behind rest _ _ s.ws refl e s.spells in
+        record { line = spells-line text rest (encoding ∷ s.ws) t; encoding = rw (spells-words text rest (encoding ∷ s.ws) t) (one_is encoding s.ws n s.numbers) }
 
-  pub bbx_found : (a b : Number) (first second third : ℕ) (x : Option ℕ) (y z : Option (Number × ℕ)) (w : Option (Four × ℕ)) → BytesFound file at (bbx ++ (0x20 ∷ [])) x → x ≡ Some first
-      → NumberFound file first 0x20 y → y ≡ Some (a, second) → NumberFound file second 0x20 z → z ≡ Some (b, third) → TwoMore file third a b w → UsualBbx file at w
-  unfolding is_plain four_of
-  bbx_found a b first second third x y z w bx ex by ey bz ez more = record {
-    found = λ p q c d to e.
-        let m = more.found p q c d to e in
-        let r = numbers_more file second third b (c ∷ d ∷ []) to (bz.found b third ez) m.1.1 in
-        let s = numbers_more file first second a (b ∷ c ∷ d ∷ []) to (by.found a second ey) r in
-        let t = after_keyword file at first to _ _ s.ws refl (bx.found first ex) s.spells in (
-          spells-to file at (bbx ∷ s.ws) to t,
-          rw (spells-words file at (bbx ∷ s.ws) to t, same_word bbx) (four_are s.ws a b c d s.numbers)
-              ∙ ap (λ (n : Number). Some (four n b c d)) (sym m.0) ∙ ap (λ (n : Number). Some (four p n c d)) (sym m.1.0),
-        );
-  }
+    -- ---- `bbx_at`
+
+    pub bbx_found : (l : List ℕ) (second third fourth end : ℕ) (a b c d : Number) → text ≡ (bbx ++ (0x20 ∷ [])) ++ l → NumberAt l 0 0x20 a second → NumberAt l second 0x20 b third
+        → NumberAt l third 0x20 c fourth → NumberAt l fourth 0x0A d end → rest ≡ take (length l - end) (drop end l) → UsualBbx text (four a b c d) rest
+    unfolding is_plain four_of
+    bbx_found l second third fourth end a b c d e n₁ n₂ n₃ n₄ r =
+        let to = drop end l in
+        let s : SpellsNumbers l (a ∷ b ∷ c ∷ d ∷ []) rest = rw (r, part_rest l end)
+        (numbers_more l 0 second a _ to n₁ (numbers_more l second third b _ to n₂ (numbers_more l third fourth c _ to n₃ (numbers-last l fourth end d n₄)))) in
+        let t = after_keyword text l rest _ _ s.ws refl e s.spells in
+        record { line = spells-line text rest (bbx ∷ s.ws) t; bbx = rw (spells-words text rest (bbx ∷ s.ws) t, same_word bbx) (four_are s.ws a b c d s.numbers) }
 
   -- ---- `start_char`
 
-  pub named_found : (first end : ℕ) (x : Option ℕ) → BytesFound file at (start_char ++ (0x20 ∷ [])) x → x ≡ Some first → first < length file → 0x20 < get_or file first 0
-      → end ≡ first + line_length (drop first file) → end < length file → UsualLine file at (is_named start_char) (Some (end + 1))
-  named_found first end x bx ex h l e m =
-      let s = bx.found first ex in
-      let b = get_or file first 0 in
-      let n : line_length (drop at file) ≡ 10 + line_length (drop first file) = rw s.here (clear_length (start_char ++ (0x20 ∷ [])) (drop first file) start_clear) in
-      let is : line_from file at ≡ named b (line_from (drop (suc first) file) 0)
-      = line_from_lem file _ at (s.here ∙ ap (λ (t : List ℕ). start_char ++ (0x20 ∷ t)) (drop-cons file first 0 h)) ∙ clear_line (named b []) (drop (suc first) file) (named-clear b l) in
+  pub named_found : (name rest : List ℕ) → text ≡ (start_char ++ (0x20 ∷ [])) ++ name → 0 < length name → 0x20 < get_or name 0 0 → LineBefore name rest → UsualLine text (is_named start_char) rest
+  named_found name rest e h l d =
+      let b = get_or name 0 0 in
+      let k : line_length text ≡ 10 + line_length name = rw e (clear_length (start_char ++ (0x20 ∷ [])) name start_clear) in
+      let is : line_from text 0 ≡ named b (line_from (drop 1 name) 0)
+      = ap (λ (t : List ℕ). line_from t 0) (e ∙ ap (λ (t : List ℕ). (start_char ++ (0x20 ∷ [])) ++ t) (drop-cons name 0 0 h)) ∙ clear_line (named b []) (drop 1 name) (named-clear b l) in
       record {
-        found = λ to q. rw (← at_is (end + 1) to q) (
-          record {
-            ends = omega (arith, n, ap length s.here, length-drop at file, length-drop first file, s.inside);
-            inside = omega arith;
-          },
-          rw is (named_line b l (line_from (drop (suc first) file) 0)),
-        );
+        line = record {
+          feed = omega (arith, k, ap length e, d.feed);
+          after =
+              let j : line_length text + 1 ≡ 10 + (line_length name + 1) = omega (arith, k) in
+              rw (j, e) (d.after ∙ sym (drop-append-add (start_char ++ (0x20 ∷ [])) name (line_length name + 1)));
+        };
+        passes = rw is (named_line b l (line_from (drop 1 name) 0));
       }

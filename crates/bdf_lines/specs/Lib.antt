@@ -1,6 +1,6 @@
 pub mod Words
 pub mod Keywords
-pub mod Positions
+pub mod Rest
 pub mod Table
 pub mod Forms
 pub mod Stands

@@ -1,21 +1,21 @@
 // The numbers of a line, decimal and hexadecimal, and the lines that have them.
-ghost use Rattle.std.specs.Prelude.{◌≡◌, ◌+◌, ◌-◌, ◌*◌, ◌≤◌, ◌<◌, min, true, length, drop};
+ghost use Rattle.std.specs.Prelude.{◌≡◌, ◌+◌, ◌-◌, ◌*◌, ◌≤◌, ◌<◌, min, true, length, None, Some, MatchOption};
 ghost use Rattle.bdf_lines.specs.Keywords.{encoding, attributes};
 ghost use Rattle.bdf_lines.specs.Words.{words, is_digit, most, digits_of, number_of, has_numbers, count_of, four_numbers, four_of, encoding_of, is_hex_pair, row_of};
-ghost use Rattle.bdf_lines.specs.Positions.{number_at, hex_of};
+ghost use Rattle.bdf_lines.specs.Rest.{first_number, hex_of};
 ghost use Rattle.bdf_lines.specs.Table.{IsTable};
 
 use super::words;
 
-// A number with its sign, which 0 has not; one above 18,000,000,000,000,000,000 counts as that.
-#[derive(Clone, Copy)]
+// A number with its sign, which 0 has not; one above 18,000,000,000,000,000,000 counts as that. No i64, which ends at half of that.
+#[derive(Clone, Copy, Debug, PartialEq, Eq)]
 pub struct Number {
     pub negative: bool,
     pub size: u64,
 }
 
 // The four numbers of a box: its sides, and the offsets of its lower left corner.
-#[derive(Clone, Copy)]
+#[derive(Clone, Copy, Debug, PartialEq, Eq)]
 pub struct Four {
     pub width: Number,
     pub height: Number,
@@ -72,60 +72,52 @@ fn number_of(word: &[u8]) -> Option<Number>
     digits(&word[usize::from(minus)..], minus)
 }
 
-// The number that is the first word from a position on, and the position after it.
-fn number_at(line: &[u8], at: usize) -> Option<(Number, usize)>
-    ensures { result ≡ number_at line.now at }
+// The number that is the first word of a line, and what follows it.
+fn first_number(line: &[u8]) -> Option<(Number, &[u8])>
+    ensures { MatchOption result (first_number (words line.now) ≡ None) (λ p. first_number (words line.now) ≡ Some (p.0, words p.1.now)) }
 {
-    let from = words::word_start(line, at);
-    if line.len() <= from {
-        return None;
-    }
-    let to = words::word_end(line, from);
-    let n = number_of(&line[from..to])?;
-    Some((n, to))
+    let (word, rest) = words::first_word(line)?;
+    let n = number_of(word)?;
+    Some((n, rest))
 }
 
 // The keyword and n numbers.
 pub fn has_numbers(line: &[u8], name: &[u8], n: u32) -> bool
     ensures { result ≡ has_numbers name.now n (words line.now) }
 {
-    let Some(from) = words::after_word(line, 0, name) else {
+    let Some(mut rest) = words::after_word(line, name) else {
         return false;
     };
-    let mut at = from;
     for _ in 0..n {
-        let Some((_, next)) = number_at(line, at) else {
+        let Some((_, next)) = first_number(rest) else {
             return false;
         };
-        at = next;
+        rest = next;
     }
-    words::is_end(line, at)
+    words::is_end(rest)
 }
 
 // The keyword and a count.
 pub fn count_of(line: &[u8], name: &[u8]) -> Option<u64>
     ensures { result ≡ count_of name.now (words line.now) }
 {
-    let from = words::after_word(line, 0, name)?;
-    let (n, end) = number_at(line, from)?;
-    if !words::is_end(line, end) {
-        return None;
-    }
-    if n.negative {
+    let rest = words::after_word(line, name)?;
+    let (n, rest) = first_number(rest)?;
+    if n.negative | !words::is_end(rest) {
         return None;
     }
     Some(n.size)
 }
 
-// Four numbers from a position on, and no more.
-fn four_at(line: &[u8], from: usize) -> Option<Four>
-    ensures { result ≡ four_numbers (words (drop from line.now)) }
+// Four numbers, and no more.
+fn four_numbers(line: &[u8]) -> Option<Four>
+    ensures { result ≡ four_numbers (words line.now) }
 {
-    let (width, second) = number_at(line, from)?;
-    let (height, third) = number_at(line, second)?;
-    let (x, fourth) = number_at(line, third)?;
-    let (y, end) = number_at(line, fourth)?;
-    if !words::is_end(line, end) {
+    let (width, rest) = first_number(line)?;
+    let (height, rest) = first_number(rest)?;
+    let (x, rest) = first_number(rest)?;
+    let (y, rest) = first_number(rest)?;
+    if !words::is_end(rest) {
         return None;
     }
     Some(Four {
@@ -140,30 +132,27 @@ fn four_at(line: &[u8], from: usize) -> Option<Four>
 pub fn four_of(line: &[u8], name: &[u8]) -> Option<Four>
     ensures { result ≡ four_of name.now (words line.now) }
 {
-    let from = words::after_word(line, 0, name)?;
-    four_at(line, from)
+    four_numbers(words::after_word(line, name)?)
 }
 
 // ENCODING and a number, or −1 and a second number.
 pub fn encoding_of(line: &[u8]) -> Option<Number>
     ensures { result ≡ encoding_of encoding (words line.now) }
 {
-    let from = words::after_word(line, 0, b"ENCODING")?;
-    let (n, second) = number_at(line, from)?;
-    if words::is_end(line, second) {
+    let rest = words::after_word(line, b"ENCODING")?;
+    let (n, rest) = first_number(rest)?;
+    if words::is_end(rest) {
         return Some(n);
     }
-    let (_, end) = number_at(line, second)?;
-    if !words::is_end(line, end) {
-        return None;
-    }
-    if n.negative & (n.size == 1) {
+    let (_, rest) = first_number(rest)?;
+    if words::is_end(rest) & n.negative & (n.size == 1) {
         return Some(n);
     }
     None
 }
 
-// The value of each byte as a hexadecimal digit, or 255.
+// The value of each byte as a hexadecimal digit, or 255. A table with such a mark, since a line of four digits takes 44 instructions by it, 57 by a
+// match and 71 by `to_digit`.
 fn digit_values() -> &'static [u8; 256]
     ensures { IsTable result.now }
 {
@@ -209,18 +198,16 @@ fn hexadecimal(digits: &[u8]) -> Option<u64>
 pub fn is_attributes(line: &[u8]) -> bool
     ensures { result ≡ is_hex_pair attributes (words line.now) }
 {
-    let Some(at) = words::after_word(line, 0, b"ATTRIBUTES") else {
+    let Some(rest) = words::after_word(line, b"ATTRIBUTES") else {
         return false;
     };
-    let from = words::word_start(line, at);
-    let to = words::word_end(line, from);
-    if !words::is_end(line, to) {
+    let Some((word, rest)) = words::first_word(rest) else {
+        return false;
+    };
+    if word.len() != 4 {
         return false;
     }
-    if to - from != 4 {
-        return false;
-    }
-    hexadecimal(&line[from..to]).is_some()
+    words::is_end(rest) & hexadecimal(word).is_some()
 }
 
 // A bitmap line of so many pixels.

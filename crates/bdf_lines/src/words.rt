@@ -1,59 +1,40 @@
 // The words of a line, and the lines that begin with a keyword.
-ghost use Rattle.std.specs.Prelude.{◌≡◌, ◌+◌, drop};
+ghost use Rattle.std.specs.Prelude.{◌≡◌, [], ◌∷◌, None, Some, MatchOption};
 ghost use Rattle.bdf_lines.specs.Keywords.{comment};
 ghost use Rattle.bdf_lines.specs.Words.{is_blank, words, is_alone, is_named, is_pair, is_comment};
-ghost use Rattle.bdf_lines.specs.Positions.{blanks, letters, is_none, after_word};
+ghost use Rattle.bdf_lines.specs.Rest.{is_none, after_word};
 
+#[tactic(auto, unfolding(crate::specs::Words::is_blank))]
 fn is_blank(b: u8) -> bool
     ensures { result ≡ is_blank b }
 {
     b == b' ' || b == b'\t'
 }
 
-// Where a word begins, from a position on, or the line's end.
-pub fn word_start(line: &[u8], from: usize) -> usize
-    ensures { result ≡ from + blanks (drop from line.now) }
+// The first word of a line, and what follows it.
+pub fn first_word(line: &[u8]) -> Option<(&[u8], &[u8])>
+    ensures { MatchOption result (words line.now ≡ []) (λ p. words line.now ≡ p.0.now ∷ words p.1.now) }
 {
-    for i in from..line.len() {
-        if !is_blank(line[i]) {
-            return i;
-        }
-    }
-    from.max(line.len())
+    let start = line.iter().position(|b| !is_blank(*b))?;
+    let word = &line[start..];
+    let end = word.iter().position(|b| is_blank(*b)).unwrap_or(word.len());
+    Some(word.split_at(end))
 }
 
-// Where a word that begins at a position ends.
-pub fn word_end(line: &[u8], from: usize) -> usize
-    ensures { result ≡ from + letters (drop from line.now) }
+// Whether a line has no word.
+pub fn is_end(line: &[u8]) -> bool
+    ensures { result ≡ is_none (words line.now) }
 {
-    for i in from..line.len() {
-        if is_blank(line[i]) {
-            return i;
-        }
-    }
-    from.max(line.len())
+    first_word(line).is_none()
 }
 
-// Whether no word stands from a position on.
-pub fn is_end(line: &[u8], at: usize) -> bool
-    ensures { result ≡ is_none (words (drop at line.now)) }
+// What follows the first word of a line, if it is the given one.
+pub fn after_word<'a>(line: &'a [u8], name: &[u8]) -> Option<&'a [u8]>
+    ensures { MatchOption result (after_word name.now (words line.now) ≡ None) (λ rest. after_word name.now (words line.now) ≡ Some (words rest.now)) }
 {
-    let from = word_start(line, at);
-    line.len() <= from
-}
-
-// The position after the first word from a position on, if it is the given one.
-pub fn after_word(line: &[u8], at: usize, name: &[u8]) -> Option<usize>
-    ensures { result ≡ after_word name.now line.now at }
-{
-    let from = word_start(line, at);
-    if line.len() <= from {
-        return None;
-    }
-    let to = word_end(line, from);
-    let word = &line[from..to];
+    let (word, rest) = first_word(line)?;
     if word == name {
-        return Some(to);
+        return Some(rest);
     }
     None
 }
@@ -62,41 +43,26 @@ pub fn after_word(line: &[u8], at: usize, name: &[u8]) -> Option<usize>
 pub fn is_alone(line: &[u8], name: &[u8]) -> bool
     ensures { result ≡ is_alone name.now (words line.now) }
 {
-    let Some(at) = after_word(line, 0, name) else {
-        return false;
-    };
-    is_end(line, at)
+    after_word(line, name).is_some_and(|rest| is_end(rest))
 }
 
 // The keyword and a name.
 pub fn is_named(line: &[u8], name: &[u8]) -> bool
     ensures { result ≡ is_named name.now (words line.now) }
 {
-    let Some(at) = after_word(line, 0, name) else {
-        return false;
-    };
-    !is_end(line, at)
+    after_word(line, name).is_some_and(|rest| !is_end(rest))
 }
 
 // The keyword and a given word.
 pub fn is_pair(line: &[u8], name: &[u8], given: &[u8]) -> bool
     ensures { result ≡ is_pair name.now given.now (words line.now) }
 {
-    let Some(at) = after_word(line, 0, name) else {
-        return false;
-    };
-    let Some(end) = after_word(line, at, given) else {
-        return false;
-    };
-    is_end(line, end)
+    after_word(line, name).is_some_and(|rest| is_alone(rest, given))
 }
 
 // A blank line, or a comment.
 pub fn is_comment(line: &[u8]) -> bool
     ensures { result ≡ is_comment comment (words line.now) }
 {
-    if is_end(line, 0) {
-        return true;
-    }
-    after_word(line, 0, b"COMMENT").is_some()
+    first_word(line).is_none_or(|(word, _)| word == b"COMMENT".as_slice())
 }

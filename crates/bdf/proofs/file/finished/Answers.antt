@@ -1,9 +1,12 @@
 -- `finished` meets its contract: lines may only end where no more are expected. Assumes nothing.
-use Rattle.bdf.proofs.Walks.{not_done, done}
+use Rattle.std.proofs.Common.{sym}
+use denote.Enum.Bare.{same_true, same_false}
+use Rattle.bdf.specs.contracts.reader.Expected.{the_type}
+use Rattle.bdf.proofs.Walks.{done, not_done}
 use Rattle.bdf.proofs.file.finished.Goals as goal
 
-pub returns-in-Nothing : goal.returns-in-Nothing
-returns-in-Nothing c = search done
+pub returns-then-eq : goal.returns-then-eq
+returns-then-eq c = done _ (same_true the_type tt _ _ (sym c.if-eq.ensures))
 
-pub returns-in_default : goal.returns-in_default
-returns-in_default c = search (not_done, c.in_default.not-Nothing)
+pub returns : goal.returns
+returns c = not_done _ (same_false the_type _ _ (sym c.if-eq.ensures))

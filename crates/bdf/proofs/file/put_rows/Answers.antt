@@ -1,5 +1,5 @@
 -- `put_rows` meets its contract. The invariant: what the bitmap lines so far come to and put is what the rest leaves. Assumes nothing.
-use Rattle.bdf.proofs.Strips.{bitmap-glyph, rows_same, rows_start, rows_next, row_strip_fits, row_end_fits, rows_step}
+use Rattle.bdf.proofs.Strips.{bitmap-glyph, rows_same, rows_start, rows_next, row_strip_fits, rows_step}
 use Rattle.bdf.proofs.Steps.{width_small}
 use Rattle.bdf.proofs.file.put_rows.Goals as goal
 
@@ -13,10 +13,7 @@ pub row_at-requires : goal.row_at-requires
 row_at-requires c = search width_small
 
 pub put_row-requires : goal.put_row-requires
-put_row-requires c = search row_strip_fits
-
-pub overflow_add-rest : goal.overflow_add-rest
-overflow_add-rest c = search row_end_fits
+put_row-requires c = search (row_strip_fits, c.in-Some.ensures)
 
 pub loop-read-preserved : goal.loop-read-preserved
-loop-read-preserved c = (search rows_next, search rows_step)
+loop-read-preserved c = (search (rows_next, c.in-Some.ensures), search (rows_step, c.in-Some.ensures))

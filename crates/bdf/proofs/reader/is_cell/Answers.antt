@@ -1,35 +1,21 @@
 -- `is_cell` meets its contract: each return follows from the tests passed and the one that failed. Assumes nothing.
-use Rattle.bdf.proofs.Steps.{chain, height_fits, cell_baseline}
-use Rattle.bdf.specs.Reader.{is_cell}
+use Rattle.bdf.proofs.Steps.{no_cell, cell_wide, cell_high, box_y, height_fits, cell_baseline}
 use Rattle.bdf.proofs.reader.is_cell.Goals as goal
 
-pub returns-then-four : goal.returns-then-four
-unfolding is_cell
-returns-then-four c = search chain
-
-pub returns-then-four-2 : goal.returns-then-four-2
-unfolding is_cell
-returns-then-four-2 c = search chain
+pub returns-then-not-is_box : goal.returns-then-not-is_box
+returns-then-not-is_box c = search no_cell
 
 pub returns-then-four-gt64 : goal.returns-then-four-gt64
-unfolding is_cell
-returns-then-four-gt64 c = search chain
+returns-then-four-gt64 c = search cell_wide
 
 pub returns-then-four-gt64-2 : goal.returns-then-four-gt64-2
-unfolding is_cell
-returns-then-four-gt64-2 c = search chain
+returns-then-four-gt64-2 c = search cell_high
 
-pub returns-then-four-gt1000000000 : goal.returns-then-four-gt1000000000
-unfolding is_cell
-returns-then-four-gt1000000000 c = search chain
-
-pub returns-then-four-gt1000000000-2 : goal.returns-then-four-gt1000000000-2
-unfolding is_cell
-returns-then-four-gt1000000000-2 c = search chain
+pub place-requires : goal.place-requires
+place-requires c = search box_y
 
 pub overflow_add-result : goal.overflow_add-result
-overflow_add-result c = search height_fits
+overflow_add-result c = search (height_fits, box_y)
 
 pub returns : goal.returns
-unfolding is_cell
 returns c = search cell_baseline

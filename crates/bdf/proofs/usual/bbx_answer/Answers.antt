@@ -1,9 +1,6 @@
 -- `bbx_answer` meets its contract: the line has the usual form, and its answer is the general one. Assumes nothing.
-use Rattle.bdf.proofs.Moves.{answer_none, bbx_answered}
+use Rattle.bdf.proofs.Moves.{bbx_answered}
 use Rattle.bdf.proofs.usual.bbx_answer.Goals as goal
 
-pub returns-in_err-four : goal.returns-in_err-four
-returns-in_err-four c = rw c.from_residual.ensures (search answer_none)
-
 pub returns : goal.returns
-returns c = search (bbx_answered, c.in_ok-four.was)
+returns c = search (bbx_answered, c.in_ok-four.ensures)

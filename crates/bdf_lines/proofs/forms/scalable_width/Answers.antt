@@ -1,6 +1,6 @@
--- `scalable_width` meets its contract: the keyword is what the bytes are without the blank. Assumes nothing.
-use Rattle.bdf_lines.proofs.UsualForms.{scalable_found}
+-- `scalable_width` meets its contract: the keyword and a blank, then two numbers. Assumes nothing.
+use Rattle.bdf_lines.proofs.UsualForms.{on_value, scalable_found}
 use Rattle.bdf_lines.proofs.forms.scalable_width.Goals as goal
 
 pub returns : goal.returns
-returns c = search scalable_found
+returns c = on_value c.two_numbers.result _ _ c.two_numbers.ensures (λ r t. scalable_found _ _ t)

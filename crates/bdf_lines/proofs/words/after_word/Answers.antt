@@ -1,15 +1,12 @@
--- `after_word` meets its contract: what stands between the blanks is the first word from the position on. Assumes nothing.
-use Rattle.bdf_lines.proofs.Positions.{after_none, to_within, after_found, after_other}
+-- `after_word` meets its contract: the first word is the given one, or another, or there is none. Assumes nothing.
+use Rattle.bdf_lines.proofs.Rest.{after_none, after_found, after_other}
 use Rattle.bdf_lines.proofs.words.after_word.Goals as goal
 
-pub returns-then-line-from : goal.returns-then-line-from
-returns-then-line-from c = search after_none
-
-pub slice_bounds-word-end : goal.slice_bounds-word-end
-slice_bounds-word-end c = search to_within
+pub returns-in_err-word : goal.returns-in_err-word
+returns-in_err-word c = rw c.from_residual.ensures (after_none _ c.in_err-word.ensures _)
 
 pub returns-then-eq : goal.returns-then-eq
-returns-then-eq c = search after_found
+returns-then-eq c = search (after_found, c.in_ok-word.ensures)
 
 pub returns : goal.returns
-returns c = search after_other
+returns c = search (after_other, c.in_ok-word.ensures)

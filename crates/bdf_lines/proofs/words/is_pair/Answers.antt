@@ -1,12 +1,7 @@
 -- `is_pair` meets its contract: after the keyword the given word is left alone. Assumes nothing.
-use Rattle.bdf_lines.proofs.Positions.{pair_other, pair_second, pair_is}
+use Rattle.std.proofs.Common.{rules}
+use Rattle.bdf_lines.proofs.Rest.{passes, pair}
 use Rattle.bdf_lines.proofs.words.is_pair.Goals as goal
 
-pub returns-in_default : goal.returns-in_default
-returns-in_default c = search pair_other
-
-pub returns-in_default-after_word : goal.returns-in_default-after_word
-returns-in_default-after_word c = search pair_second
-
 pub returns : goal.returns
-returns c = search pair_is
+returns c = passes (pair c.args.name.now c.args.given.now) _ c.after_word.result c.after_word.ensures c.is_some_and.ensures (λ y p. search rules)

@@ -1,9 +1,7 @@
--- `in_bitmap` meets its contract: only bitmap lines are expected there, and more of them to come. Assumes nothing.
-use Rattle.bdf.proofs.Steps.{no_bitmap, bitmap-next}
+-- `in_bitmap` meets its contract: bitmap lines are expected, and more of them to come. Assumes nothing.
+use Rattle.std.proofs.Common.{refl}
+use Rattle.bdf.proofs.Steps.{bitmap_next}
 use Rattle.bdf.proofs.reader.Reader.in_bitmap.Goals as goal
 
-pub returns-in-Rows : goal.returns-in-Rows
-returns-in-Rows c = search bitmap-next
-
-pub returns-in_default : goal.returns-in_default
-returns-in_default c = search (no_bitmap, c.in_default.not-Rows)
+pub returns : goal.returns
+returns c = bitmap_next _ _ _ c.eq.ensures refl
