@@ -1,9 +1,9 @@
 -- The loop over a list of edits: what remains of the list, made from where the loop stands, gives what the whole list gives. Assumes nothing.
-use Prim.Native.Nat.{ℕ, suc, ◌+◌, ◌-◌, ◌<◌}
+use Prim.Native.Nat.{ℕ, suc, ◌+◌, ◌-◌, ◌≤◌}
 use native.Mathlib.Omega.{arith}
 use mathlib.Core.Path.{◌≡◌, refl, sym, ap, ◌∙◌}
 use native.Mathlib.Numerals.{add-one}
-use mathlib.Core.Bool.{true, false, true≢false}
+use mathlib.Core.Bool.{true, false}
 use Rattle.std.specs.Prelude.{Ok, Err}
 use Rattle.refusals.specs.declared.Refusal.{Refusal}
 use Rattle.refusals.specs.Numbers.{number}
@@ -17,8 +17,8 @@ use Rattle.text.specs.Signed.{SignedRectangle, signed_rectangle}
 use Rattle.text.specs.Signed
 use Rattle.text.proofs.Signed.{signed-join, signed-origin}
 use Rattle.sheet.specs.Edits.{Edit, refusal}
-use Rattle.entries.specs.Entries.{behind, edit_of, is_entry, is_filled, edits_of}
-use Rattle.entries.proofs.Entries.{filled_entry, filled-behind, edits_behind, edits_end, behind_shorter}
+use Rattle.entries.specs.Entries.{behind, edit_of, is_entry, edits_of}
+use Rattle.entries.proofs.Walks.{behind_shorter, edits_behind, edits_stopped}
 use Rattle.changes.specs.Change.{change_of, Checked, area_of, outcome, sheet_after, frame_after}
 use Rattle.drawing.specs.Drawing.{repainted}
 use Rattle.calls.specs.declared.Box.{Box}
@@ -77,20 +77,10 @@ start_near a e = rw e (omega arith)
 pub start-batch : (a : Rectangle) (rs : List Box) → a ≡ rectangle origin origin 0 0 → batch_from 0 (signed_rectangle a) rs ≡ batch_of rs
 start-batch a rs e = ap (λ (z : SignedRectangle). batch_from 0 z rs) (ap signed_rectangle e ∙ corner)
 
--- what is left of a filled list where no entry stands
-module _ (b frame l : List ℕ) (f : is_filled l ≡ true) (n : false ≡ is_entry l) where
-  ended : l ≡ []
-  ended = go l f n
-    where
-      go : (l : List ℕ) → is_filled l ≡ true → false ≡ is_entry l → l ≡ []
-      go [] f n = refl
-      go (x ∷ l) f n = absurd (true≢false (sym (filled_entry (x ∷ l) (omega arith) f) ∙ sym n))
-
+-- what is left of a list where no entry stands
+module _ (b frame l : List ℕ) (n : false ≡ is_entry l) where
   no_more : singly b frame l ≡ record { state = record { sheet = b; frame = frame }; replies = [] }
-  no_more =
-      ap (λ (l : List ℕ). singly b frame l) ended
-      ∙ ap (run_until_refused patched_machine (record { sheet = b; frame = frame })) edits_end
-      ∙ until_end patched_machine _
+  no_more = ap (run_until_refused patched_machine (record { sheet = b; frame = frame })) (edits_stopped l n) ∙ until_end patched_machine _
 
   pub end_batch : (made : ℕ) (a : SignedRectangle) (whole : Batch) → batch_from made a (singly b frame l).replies ≡ whole → batch 0 made a ≡ whole
   unfolding batch_from
@@ -106,7 +96,7 @@ module _ (b frame l : List ℕ) (f : is_filled l ≡ true) (n : false ≡ is_ent
     pub end_frame : frame ≡ whole.frame
     end_frame = ap (λ (s : Logger). s.frame) same_end
 
--- ---- one entry of a filled list, whose edit is e
+-- ---- one entry of a list, whose edit is e
 
 module _ (b frame l : List ℕ) (g : Checked b frame) (t : true ≡ is_entry l) (e : Edit) (same : e ≡ edit_of l) where
   here : is_entry l ≡ true
@@ -178,11 +168,25 @@ module _ (b frame l : List ℕ) (g : Checked b frame) (t : true ≡ is_entry l) 
           ∙ sym (batch_made made (signed_rectangle m) (edit_reply b frame (edit_of l)) rest (reply_code b frame (edit_of l) g ∙ allowed))
           ∙ ap (λ (r : Run Logger Box). batch_from made (signed_rectangle m) r.replies) (sym further) ∙ q
 
--- what stands behind an entry
+-- ---- where the loop stands: on a sheet and a frame, with what is left of the list, the number made and their rectangle
 
-module _ (l r : List ℕ) (t : true ≡ is_entry l) (er : r ≡ behind l) where
-  pub filled_next : is_filled l ≡ true → is_filled r ≡ true
-  filled_next f = ap is_filled er ∙ filled-behind l (sym t) ∙ f
+pub record Stands (b₀ frame₀ list b frame l : List ℕ) (made : ℕ) (m : Rectangle) : Type 0 where
+  pub checked : Checked b frame
+  pub counted : made + length l ≤ length list
+  pub near : EndsNear m
+  pub batch-as : batch_from made (signed_rectangle m) (singly b frame l).replies ≡ batch_of (singly b₀ frame₀ list).replies
+  pub state-as : (singly b frame l).state ≡ (singly b₀ frame₀ list).state
 
-  pub less_left : length r < length l
-  less_left = rw er (behind_shorter l t)
+-- at an entry, whose edit is made
+pub stands_next : (b₀ frame₀ list b frame l : List ℕ) (made : ℕ) (m : Rectangle) → Stands b₀ frame₀ list b frame l made m
+    → (e : Edit) (a : Rectangle) → change_of (Ok a) ≡ outcome b e → (s f r : List ℕ) (j : Rectangle) → s ≡ sheet_after b e → f ≡ repainted s a frame → j ≡ join m a
+    → e ≡ edit_of l → true ≡ is_entry l → r ≡ behind l → Stands b₀ frame₀ list s f r (made + 1) j
+stands_next b₀ frame₀ list b frame l made m i e a eo s f r j es ef ej same t er =
+    let h = behind_shorter l r t er in
+    record {
+      checked = checked_next b frame l i.checked t e same a eo s f r es ef er;
+      counted = omega (arith, i.counted);
+      near = joined_near b frame l i.checked t e same a eo m j ej i.near;
+      batch-as = batch-next b frame l i.checked t e same a eo s f r es ef er made m j _ ej i.batch-as;
+      state-as = state_next b frame l i.checked t e same a eo s f r es ef er _ i.state-as;
+    }

@@ -1,8 +1,7 @@
 // A list of edits, made on an accepted sheet and on a frame of its size. Each edit repaints its own rectangle; the sheet is not checked again.
 #![tactic(auto)]
 
-ghost use Rattle.std.specs.Prelude.{◌≡◌, true};
-ghost use Rattle.entries.specs.Entries.{is_filled};
+ghost use Rattle.std.specs.Prelude.{◌≡◌};
 ghost use Rattle.changes.specs.Change.{Checked};
 ghost use Rattle.calls.specs.Calls.{singly, batch_of};
 ghost use Rattle.calls.specs.Replies.{CornerFits};
@@ -10,7 +9,7 @@ ghost use Rattle.batch.specs.Made.{made_batch};
 
 use changes::change;
 use drawing::repaint;
-use entries::first_entry;
+use entries::Entries;
 use geometry::{ORIGIN, Rectangle};
 use refusals::Refusal;
 use sheet::Sheet;
@@ -23,10 +22,9 @@ pub struct Made {
     pub area: Rectangle,
 }
 
-// Makes the edits of a list, up to the first that is refused.
+// Makes the edits of a list, up to the first that is refused, or to bytes that are no entry.
 pub fn make_list(sheet: &mut [u8], frame: &mut [u8], list: &[u8]) -> Made
-    requires checked { Checked sheet.old frame.old }
-    requires list_value { is_filled list.now ≡ true }
+    requires { Checked sheet.old frame.old }
     ensures result_value { made_batch result ≡ batch_of (singly sheet.old frame.old list.now).replies }
     ensures corner_fits { CornerFits result.area }
     ensures sheet_after { sheet.new ≡ (singly sheet.old frame.old list.now).state.sheet }
@@ -39,15 +37,9 @@ pub fn make_list(sheet: &mut [u8], frame: &mut [u8], list: &[u8]) -> Made
         width: 0,
         height: 0,
     };
-    let mut left = list;
-    // What is left of the list goes on, and no iterator of entries: the laws of a list speak of what is left.
-    while let Some((entry, behind)) = first_entry(left) {
-        match change(sheet, entry.item, entry.edit) {
-            Ok(repainted) => {
-                repaint(Sheet { bytes: &sheet[..] }, frame, repainted);
-                area = area.join(repainted);
-                made += 1;
-            }
+    for entry in Entries::of(list) {
+        let repainted = match change(sheet, entry.item, entry.edit) {
+            Ok(repainted) => repainted,
             Err(refusal) => {
                 return Made {
                     refused: Some(refusal),
@@ -55,8 +47,10 @@ pub fn make_list(sheet: &mut [u8], frame: &mut [u8], list: &[u8]) -> Made
                     area,
                 };
             }
-        }
-        left = behind;
+        };
+        repaint(Sheet { bytes: &sheet[..] }, frame, repainted);
+        area = area.join(repainted);
+        made += 1;
     }
     Made {
         refused: None,

@@ -74,7 +74,8 @@ fn edit_of(bytes: &[u8]) -> Edit<'_> {
     Edit::of(byte_at(bytes, 0), item, x, y, data_of(bytes))
 }
 
-// ---- a batch made singly on the sheet alone: its entries are a kind (1 byte), an item (1), and the data, a length (2) and the bytes
+// ---- a batch made singly on the sheet alone: its entries are a kind (1 byte), an item (1), and the data, a length (2) and the bytes; they are read
+// here, and not by crate `entries`, which is part of what is compared
 
 fn entry_data_size(entry: &[u8]) -> usize
     ensures { result < 65536 }

@@ -1,3 +1,3 @@
-pub mod Entries
+pub mod Walks
 pub mod TwosComplement
 pub mod Spelled

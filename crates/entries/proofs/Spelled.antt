@@ -18,7 +18,7 @@ use Rattle.sheet.specs.Edits.{Edit, new_text, new_place, new_style, item_number}
 use Rattle.sheet.proofs.Bytes.{le16_at_small}
 use Rattle.entries.specs.Entries.{kind_of, item_of, data_length, data_of, behind, signed_of, edit_of, is_known, is_entry, is_filled, edits_of}
 use Rattle.entries.specs.Spelled.{le32, kind_number, data_bytes, entry_bytes, list_bytes, Bytes, PlaceFits, Storable, AllStorable}
-use Rattle.entries.proofs.Entries.{whole, entry_tests, entry_in, filled_none, filled_entry, filled-behind, edits_behind, edits_end}
+use Rattle.entries.proofs.Walks.{whole, entry_tests, entry_in, filled_none, filled_entry, filled-behind, edits_behind, edits_end}
 use Rattle.entries.proofs.TwosComplement.{signed_is}
 
 -- ---- signed numbers and their bits

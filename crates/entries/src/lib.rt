@@ -1,14 +1,15 @@
 // The entries of a list of edits, read where they stand.
 #![tactic(auto)]
 
-ghost use Rattle.std.specs.Prelude.{◌≡◌, ◌+◌, ◌≤◌, length, IfSome};
+ghost use Rattle.std.specs.Prelude.{◌≡◌, ℕ, ◌+◌, ◌≤◌, length, IfSome};
 ghost use Rattle.std.specs.Option.{is_some};
+ghost use Rattle.std.specs.Iterator.{at_most};
 ghost use Rattle.sheet.specs.Fields.{le32_at};
 ghost use Rattle.sheet.specs.OfItem.{of_item};
-ghost use Rattle.entries.specs.Entries.{kind_of, item_of, data_length, behind, signed_of, edit_of, is_known, is_entry, is_filled};
+ghost use Rattle.entries.specs.Entries.{signed_of, is_known, is_filled};
+ghost use Rattle.entries.specs.Given.{edit_by, GivesEntry};
 
 use sheet::edit::Edit;
-use sheet::fields::u16_at;
 
 // An edit, and the number of its item.
 #[derive(Clone, Copy, Debug, PartialEq, Eq)]
@@ -25,53 +26,61 @@ fn i32_at(list: &[u8], at: usize) -> i32
     i32::from_le_bytes([list[at], list[at + 1], list[at + 2], list[at + 3]])
 }
 
-// The edit of the entry at the head of a list, whose data end at `end`: none of an unknown kind, nor a place that is not 8 bytes long.
-#[tactic(auto, using(characters::proofs::Tests::tests, crate::proofs::Entries::data_is), unfolding(crate::specs::Entries::edit_of, crate::specs::Entries::is_known, crate::specs::Entries::data_of))]
-fn edit_of(list: &[u8], end: usize) -> Option<Edit<'_>>
-    requires value { end ≡ 4 + data_length list.now }
-    requires within { end ≤ length list.now }
-    ensures known { is_some result ≡ is_known (kind_of list.now) (data_length list.now) }
-    ensures value { IfSome result (λ edit. of_item (item_of list.now) edit ≡ edit_of list.now) }
+// The edit of a kind with its data: none of an unknown kind, nor a place whose data are not 8 bytes.
+#[tactic(auto, using(characters::proofs::Tests::tests), unfolding(crate::specs::Given::edit_by, crate::specs::Entries::is_known))]
+fn edit_of(kind: u8, bytes: &[u8]) -> Option<Edit<'_>>
+    ensures known { is_some result ≡ is_known kind (length bytes.now) }
+    ensures value { IfSome result (λ edit. (item : ℕ) → of_item item edit ≡ edit_by kind item bytes.now) }
 {
-    let data = &list[4..end];
-    match list[0] {
-        0 => Some(Edit::Text(data)),
-        1 if data.len() == 8 => Some(Edit::Place(i32_at(list, 4), i32_at(list, 8))),
-        2 => Some(Edit::Style(data)),
+    match kind {
+        0 => Some(Edit::Text(bytes)),
+        1 if bytes.len() == 8 => Some(Edit::Place(i32_at(bytes, 0), i32_at(bytes, 4))),
+        2 => Some(Edit::Style(bytes)),
         _ => None,
     }
 }
 
-// The entry at the head of a list, and the bytes behind it, where an entry stands there, whole.
-pub fn first_entry(list: &[u8]) -> Option<(Entry<'_>, &[u8])>
-    ensures whole { is_some result ≡ is_entry list.now }
-    ensures value { IfSome result (λ p. of_item p.0.item p.0.edit ≡ edit_of list.now) }
-    ensures rest { IfSome result (λ p. p.1.now ≡ behind list.now) }
-{
-    if list.len() < 4 {
-        return None;
+// The entries of a list that are left, up to its end or to bytes that are no entry.
+#[derive(Clone, Copy, Debug, PartialEq, Eq)]
+pub struct Entries<'a> {
+    rest: &'a [u8],
+}
+
+impl<'a> Entries<'a> {
+    // The entries of a list.
+    pub fn of(list: &'a [u8]) -> Entries<'a>
+        ensures { result.rest.now ≡ list.now }
+    {
+        Entries { rest: list }
     }
-    let size = u16_at(list, 2);
-    if list.len() - 4 < size {
-        return None;
+}
+
+impl<'a> Iterator for Entries<'a> {
+    type Item = Entry<'a>;
+
+    ghost next_gives = { GivesEntry };
+
+    ghost remaining = { λ entries. at_most (length entries.rest.now) };
+
+    fn next(&mut self) -> Option<Entry<'a>> {
+        let ([kind, item, low, high], behind) = self.rest.split_first_chunk::<4>()?;
+        let size = u16::from_le_bytes([*low, *high]);
+        let (data, rest) = behind.split_at_checked(usize::from(size))?;
+        let edit = edit_of(*kind, data)?;
+        self.rest = rest;
+        Some(Entry {
+            item: u32::from(*item),
+            edit,
+        })
     }
-    let end = 4 + size;
-    let edit = edit_of(list, end)?;
-    let item = u32::from(list[1]);
-    Some((Entry { item, edit }, &list[end..]))
 }
 
 // Whether entries fill the list.
 pub fn is_filled(list: &[u8]) -> bool
     ensures { result ≡ is_filled list.now }
 {
-    let mut left = list;
-    // What is left goes on, and no iterator of entries: it would end at the list's end and at bytes that are no entry alike.
-    while !left.is_empty() {
-        let Some((_, rest)) = first_entry(left) else {
-            return false;
-        };
-        left = rest;
-    }
-    true
+    let mut entries = Entries::of(list);
+    // A `for` over `&mut entries` does not prove: what is left behind it is not told.
+    while let Some(_) = entries.next() {}
+    entries.rest.is_empty()
 }

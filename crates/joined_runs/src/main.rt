@@ -19,14 +19,14 @@ use station::{
 // ---- a case
 
 // What a case draws.
-#[derive(Clone, Copy)]
+#[derive(Clone, Copy, Debug, PartialEq, Eq)]
 enum Content<'a> {
     Line(&'a [u8]),
     Whitespace { width: u32, step: usize },
 }
 
 // The position that a drawing returned, and how many characters it replaced.
-#[derive(Clone, Copy, PartialEq, Eq)]
+#[derive(Clone, Copy, Debug, PartialEq, Eq)]
 struct Returned {
     x: i32,
     y: i32,
@@ -127,7 +127,7 @@ impl<'a> Iterator for Cuts<'a> {
 }
 
 // An item and what is drawn of it.
-#[derive(Clone, Copy)]
+#[derive(Clone, Copy, Debug, PartialEq, Eq)]
 struct Case<'a> {
     item: u32,
     content: Content<'a>,
@@ -173,7 +173,7 @@ fn case_size(bytes: &[u8]) -> usize {
 
 // How often the two ways gave the same, how often not, and how often a call was refused; of what was drawn at once, how many characters were
 // replaced, and the checksum of the frames.
-#[derive(Clone, Copy, Default)]
+#[derive(Clone, Copy, Debug, Default, PartialEq, Eq)]
 struct Tally {
     same: u64,
     different: u64,

@@ -87,23 +87,23 @@ fn show(out: &impl Print, kind: u8, bytes: &[u8]) {
 
 // ---- a line of input
 
-// The value of the hexadecimal digit in a column of a line; of a column past its end 0.
-fn digit_at(line: &[u8], column: usize) -> u8
+// The value of a hexadecimal digit.
+fn digit(byte: u8) -> u8
     ensures { result < 16 }
 {
-    match line.get(column).copied().unwrap_or(0) {
-        b if b < b'A' => b % 16,
-        b => (b % 16 + 9) % 16,
+    if byte < b'A' {
+        byte % 16
+    } else {
+        (byte % 16 + 9) % 16
     }
 }
 
-// Reads the bytes of a line: two digits and a blank for each, from column 2 on.
-fn read_bytes(line: &[u8], bytes: &mut [u8])
-    requires { length bytes.old ≤ 64 }
-{
-    for (i, byte) in bytes.iter_mut().enumerate() {
-        let high = digit_at(line, 3 * i + 2);
-        *byte = 16 * high + digit_at(line, 3 * i + 3);
+// Reads bytes: two digits and a blank for each.
+fn read_bytes(digits: &[u8], bytes: &mut [u8]) {
+    for (byte, digits) in bytes.iter_mut().zip(digits.chunks(3)) {
+        if let [high, low, ..] = digits {
+            *byte = 16 * digit(*high) + digit(*low);
+        }
     }
 }
 
@@ -111,14 +111,14 @@ fn show_line(out: &impl Print, line: &[u8]) {
     let Some(at) = line.iter().position(|byte| *byte == b'=') else {
         return;
     };
-    let Some(name) = line.get(at + 2..) else {
+    let (Some(digits), Some(name)) = (line.get(2..), line.get(at + 2..)) else {
         return;
     };
     let _ = out.write_all(name);
     let _ = print!(out; ":");
     let mut buffer = [0u8; 64];
     let bytes = &mut buffer[..(at / 3).min(64)];
-    read_bytes(line, bytes);
+    read_bytes(digits, bytes);
     show(out, line[0], bytes);
     let _ = println!(out);
 }

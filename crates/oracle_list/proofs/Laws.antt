@@ -1,18 +1,24 @@
--- Laws of stored lengths and of changes. Assumes nothing.
-use Rattle.std.proofs.Common.{◌≡◌, ℕ, ◌+◌, ◌*◌, ◌^◌, ◌<◌, List, ◌++◌, length, get_or, take, drop, sym, ap, ◌∙◌, arith, take-append-drop, drop-drop}
+-- Laws of stored numbers and of changes. Assumes nothing.
+use Rattle.std.proofs.Common.{◌≡◌, ℕ, ◌+◌, ◌*◌, List, ◌++◌, length, get_or, take, drop, sym, ap, ◌∙◌, arith, lit<, take-append-drop, drop-drop}
+use Rattle.std.proofs.lemmas.List.{get_or-take}
 use Rattle.oracle_list.specs.Changes.{length_at, change_bytes, changed}
 
-pub length_read : (l b : List ℕ) (at r : ℕ) → b ≡ drop at l → r ≡ get_or b 0 0 + 256 * get_or b 1 0 → r < 2 ^ 16 → (r ≡ length_at l at) × (r < 65_536)
+pub u16_is : (l b : List ℕ) (n : ℕ) → b ≡ take 2 l → n ≡ get_or b 0 0 + get_or b 1 0 * 256 → n ≡ length_at l 0
 unfolding length_at
-length_read l b at r e q h = (q ∙ rw e, omega arith)
+u16_is l b n e q =
+    let p = get_or-take 2 l 0 0 (lit< tt) in
+    let r = get_or-take 2 l 1 0 (lit< tt) in
+    q ∙ rw e (omega arith)
+
+pub change_is : (l r b : List ℕ) → r ≡ drop 2 l → b ≡ take (length_at r 0) (drop 2 r) → b ≡ change_bytes l
+unfolding length_at change_bytes
+change_is l r b e q = q ∙ rw (e, drop-drop 2 2 l)
 
 -- a list is its first bytes, some bytes after them, and the rest
 three_parts : (l : List ℕ) (at n : ℕ) → l ≡ take at l ++ (take n (drop at l) ++ drop (at + n) l)
 three_parts l at n = sym (take-append-drop at l) ∙ ap (λ (x : List ℕ). take at l ++ x) (sym (take-append-drop n (drop at l)) ∙ ap (λ (x : List ℕ). take n (drop at l) ++ x) (drop-drop n at l))
 
-pub changed_is : (a b c bytes : List ℕ) (at n : ℕ) → at ≡ length_at c 0 → n ≡ length_at c 2 → bytes ≡ take n (drop 4 c)
-    → take at a ≡ take at b → take (length bytes) (drop at a) ≡ bytes → drop (at + length bytes) a ≡ drop (at + length bytes) b → a ≡ changed b c
-unfolding changed change_bytes
-changed_is a b c bytes at n p q s x y z =
-    let k : bytes ≡ change_bytes c = s ∙ ap (λ (m : ℕ). take m (drop 4 c)) q in
-    three_parts a at (length bytes) ∙ rw (x, y, z, k, p)
+pub changed_is : (a b bytes : List ℕ) (at n : ℕ) → n ≡ at → take n a ≡ take n b → take (length bytes) (drop n a) ≡ bytes → drop (n + length bytes) a ≡ drop (n + length bytes) b
+    → a ≡ changed b at bytes
+unfolding changed
+changed_is a b bytes at n e x y z = three_parts a n (length bytes) ∙ rw (x, y, z, e)

@@ -9,6 +9,6 @@ length_at l at = slice_index (drop at l) 0 + 256 * slice_index (drop at l) 1
 unfoldable pub change_bytes : List ℕ → List ℕ
 change_bytes c = take (length_at c 2) (drop 4 c)
 
--- bytes with a change c: those of the change from its offset on, the others as they were
-unfoldable pub changed : List ℕ → List ℕ → List ℕ
-changed l c = take (length_at c 0) l ++ (change_bytes c ++ drop (length_at c 0 + length (change_bytes c)) l)
+-- bytes with a change: those of the change from its offset on, the others as they were
+unfoldable pub changed : List ℕ → ℕ → List ℕ → List ℕ
+changed l at bytes = take at l ++ (bytes ++ drop (at + length bytes) l)

@@ -4,31 +4,41 @@
 #![tactic(auto)]
 
 ghost use Rattle.std.specs.Prelude.{◌≡◌, ◌<◌, ◌≤◌, true, IfSome, length, take, drop};
-ghost use Rattle.oracle_list.specs.Changes.{length_at, changed};
+ghost use Rattle.oracle_list.specs.Changes.{length_at, change_bytes, changed};
 
 use reading::read_full;
-use replay::{Edit, Reply, byte_at, i32_of, part, rest, store, u16_of, u32_of};
+use replay::{Edit, Reply, part, rest, store, u32_of};
 use std::fmt;
 
 // ---- the parts of a case and of a call
 
-// A length that is stored at `at`.
-fn length_at(bytes: &[u8], at: usize) -> usize
-    ensures { (result ≡ length_at bytes.now at) × (result < 65536) }
+// The number that the first two bytes of a list store, and what follows it, unless the list ends in it.
+fn first_u16(list: &[u8]) -> Option<(u16, &[u8])>
+    ensures { IfSome result (λ p. (p.0 ≡ length_at list.now 0) × (p.1.now ≡ drop 2 list.now) × (length p.1.now < length list.now)) }
 {
-    usize::from(u16_of(rest(bytes, at)))
+    let (bytes, behind) = list.split_first_chunk::<2>()?;
+    Some((u16::from_le_bytes(*bytes), behind))
+}
+
+// The number that the first four bytes store, and what follows it, unless the list ends in it.
+fn first_u32(list: &[u8]) -> Option<(u32, &[u8])>
+    ensures { IfSome result (λ p. length p.1.now < length list.now) }
+{
+    let (bytes, behind) = list.split_first_chunk::<4>()?;
+    Some((u32::from_le_bytes(*bytes), behind))
 }
 
 // The bytes whose length a list starts with, and what follows them, unless the list ends in them.
 fn sized(list: &[u8]) -> Option<(&[u8], &[u8])>
-    ensures { IfSome result (λ p. (length p.0.now < 65536) × (length p.1.now < length list.now)) }
+    ensures value { IfSome result (λ p. p.0.now ≡ take (length_at list.now 0) (drop 2 list.now)) }
+    ensures sizes { IfSome result (λ p. (length p.0.now < 65536) × (length p.1.now < length list.now)) }
 {
-    let (size, behind) = list.split_first_chunk::<2>()?;
-    behind.split_at_checked(usize::from(u16::from_le_bytes(*size)))
+    let (size, behind) = first_u16(list)?;
+    behind.split_at_checked(usize::from(size))
 }
 
 // A case of the list: the sheet, the frame, the output's length, the number of calls, and what follows, the calls first.
-#[derive(Clone, Copy)]
+#[derive(Clone, Copy, Debug, PartialEq, Eq)]
 struct Case<'a> {
     sheet: &'a [u8],
     frame: &'a [u8],
@@ -45,101 +55,109 @@ fn first_case(list: &[u8]) -> Option<Case<'_>>
 {
     let (sheet, list) = sized(list)?;
     let (frame, list) = sized(list)?;
-    let (output, list) = list.split_first_chunk::<2>()?;
-    let (calls, behind) = list.split_first_chunk::<2>()?;
+    let (output, list) = first_u16(list)?;
+    let (calls, behind) = first_u16(list)?;
     Some(Case {
         sheet,
         frame,
-        output: u16::from_le_bytes(*output),
-        calls: u16::from_le_bytes(*calls),
+        output,
+        calls,
         behind,
     })
 }
 
-// A call of the list with its answer: its reply and the three changes.
-#[derive(Clone, Copy)]
-struct Call<'a>(&'a [u8]);
-
-impl<'a> Call<'a> {
-    fn kind(self) -> u8 {
-        byte_at(self.0, 0)
-    }
-
-    // The item, or another number that the call is made with first.
-    fn first(self) -> u32 {
-        u32_of(rest(self.0, 1))
-    }
-
-    fn second(self) -> u32 {
-        u32_of(rest(self.0, 5))
-    }
-
-    // The new text, the new style, the list of edits, or the walker's line.
-    fn text(self) -> &'a [u8] {
-        part(self.0, 15, length_at(self.0, 13))
-    }
-
-    // The edit of a kind that the call makes.
-    fn edit(self, kind: u8) -> Edit<'a> {
-        let x = i32_of(rest(self.0, 5));
-        let y = i32_of(rest(self.0, 9));
-        Edit::of(kind, self.first(), x, y, self.text())
-    }
-
-    fn answer(self) -> &'a [u8] {
-        rest(self.0, 15 + length_at(self.0, 13))
-    }
+// What has changed of some bytes: those from an offset on. The others are as they were.
+#[derive(Clone, Copy, Debug, PartialEq, Eq)]
+struct Change<'a> {
+    at: u16,
+    bytes: &'a [u8],
+    ghost is_short: { length bytes.now < 65536 },
 }
 
-// The stored reply.
-fn reply_of(answer: &[u8]) -> Reply {
-    Reply {
-        code: u32_of(answer),
-        made: u32_of(rest(answer, 4)),
-        left: i32_of(rest(answer, 8)),
-        top: i32_of(rest(answer, 12)),
-        width: u32_of(rest(answer, 16)),
-        height: u32_of(rest(answer, 20)),
-    }
-}
-
-// The size of a change in the list.
-fn change_size(change: &[u8]) -> usize
-    ensures { result < 65540 }
+// The change that a list starts with, and what follows it, unless the list ends in it.
+fn first_change(list: &[u8]) -> Option<(Change<'_>, &[u8])>
+    ensures value { IfSome result (λ p. (p.0.at ≡ length_at list.now 0) × (p.0.bytes.now ≡ change_bytes list.now)) }
+    ensures size { IfSome result (λ p. length p.1.now < length list.now) }
 {
-    4 + length_at(change, 2)
+    let (at, list) = first_u16(list)?;
+    let (bytes, behind) = sized(list)?;
+    Some((Change { at, bytes }, behind))
 }
 
-// What follows a change in the list.
-fn after_change(change: &[u8]) -> &[u8] {
-    rest(change, change_size(change))
-}
-
-// The size of three changes in the list.
-fn changes_size(changes: &[u8]) -> usize
-    ensures { result < 196620 }
+// The reply that a list starts with, and what follows it, unless the list ends in it.
+fn first_reply(list: &[u8]) -> Option<(Reply, &[u8])>
+    ensures { IfSome result (λ p. length p.1.now < length list.now) }
 {
-    let second = after_change(changes);
-    let third = after_change(second);
-    change_size(changes) + change_size(second) + change_size(third)
+    let (code, list) = first_u32(list)?;
+    let (made, list) = first_u32(list)?;
+    let (left, list) = first_u32(list)?;
+    let (top, list) = first_u32(list)?;
+    let (width, list) = first_u32(list)?;
+    let (height, behind) = first_u32(list)?;
+    let reply = Reply {
+        code,
+        made,
+        left: left.cast_signed(),
+        top: top.cast_signed(),
+        width,
+        height,
+    };
+    Some((reply, behind))
+}
+
+// A call of the list: its kind, its arguments, of which the first is mostly the item, and its text, style, list of edits or walker's line; then
+// its answer, the reply and the three changes.
+#[derive(Clone, Copy, Debug, PartialEq, Eq)]
+struct Call<'a> {
+    kind: u8,
+    arguments: (u32, u32, u32),
+    text: &'a [u8],
+    reply: Reply,
+    sheet: Change<'a>,
+    frame: Change<'a>,
+    output: Change<'a>,
 }
 
 // The call that a list starts with, and what follows it, unless the list ends in it.
 fn first_call(list: &[u8]) -> Option<(Call<'_>, &[u8])>
-    ensures { IfSome result (λ p. length p.1.now ≤ length list.now) }
+    ensures { IfSome result (λ p. length p.1.now < length list.now) }
 {
-    let head = 39 + length_at(list, 13);
-    let (call, behind) = list.split_at_checked(head + changes_size(rest(list, head)))?;
-    Some((Call(call), behind))
+    let (kind, list) = list.split_first()?;
+    let (first, list) = first_u32(list)?;
+    let (second, list) = first_u32(list)?;
+    let (third, list) = first_u32(list)?;
+    let (text, list) = sized(list)?;
+    let (reply, list) = first_reply(list)?;
+    let (sheet, list) = first_change(list)?;
+    let (frame, list) = first_change(list)?;
+    let (output, behind) = first_change(list)?;
+    let call = Call {
+        kind: *kind,
+        arguments: (first, second, third),
+        text,
+        reply,
+        sheet,
+        frame,
+        output,
+    };
+    Some((call, behind))
+}
+
+impl<'a> Call<'a> {
+    // The edit of a kind that the call makes.
+    fn edit(self, kind: u8) -> Edit<'a> {
+        let (item, x, y) = self.arguments;
+        Edit::of(kind, item, x.cast_signed(), y.cast_signed(), self.text)
+    }
 }
 
 // ---- the calls
 
-// Makes a call of the list, by its kind: the stored list's own number, which is printed as one.
+// Makes a call of the list, by its kind: the stored list's own number, which is printed as one. An enum would name each kind twice, from its
+// number and at its call.
 fn make_call(sheet: &mut [u8], frame: &mut [u8], output: &mut [u8], call: Call<'_>) -> Reply {
-    let first = call.first();
-    let second = call.second();
-    match call.kind() {
+    let (first, second, _) = call.arguments;
+    match call.kind {
         0 => Reply::of_code(station::station_check(sheet)),
         1 => Reply::from(station::station_index(sheet, first, second)),
         2 => Reply::from(station::station_contains(sheet, first, second)),
@@ -150,15 +168,15 @@ fn make_call(sheet: &mut [u8], frame: &mut [u8], output: &mut [u8], call: Call<'
         kind @ 7..=9 => Reply::from(call.edit(kind - 7).make(sheet, frame)),
         kind @ 10..=12 => Reply::from(call.edit(kind - 10).make_on_sheet(sheet)),
         13 => Reply::from(station::station_write_page(sheet, frame, output)),
-        15 => Reply::from(station::station_edit_list(sheet, frame, call.text())),
-        _ => Reply::from(station::station_walk(call.text(), first as usize)),
+        15 => Reply::from(station::station_edit_list(sheet, frame, call.text)),
+        _ => Reply::from(station::station_walk(call.text, first as usize)),
     }
 }
 
 // ---- the comparison
 
 // What of a call's outcome is as the list says.
-#[derive(Clone, Copy)]
+#[derive(Clone, Copy, Debug, PartialEq, Eq)]
 struct Same {
     reply: bool,
     sheet: bool,
@@ -205,12 +223,11 @@ fn has_at(a: &[u8], at: usize, bytes: &[u8]) -> bool
 }
 
 // Whether the bytes after a call are those before it with a change.
-fn as_stored(after: &[u8], before: &[u8], change: &[u8]) -> bool
-    ensures { result ≡ true → after.now ≡ changed before.now change.now }
+fn as_stored(after: &[u8], before: &[u8], change: Change<'_>) -> bool
+    ensures { result ≡ true → after.now ≡ changed before.now change.entry.at change.entry.bytes.now }
 {
-    let at = length_at(change, 0);
-    let size = length_at(change, 2);
-    let bytes = part(change, 4, size);
+    let at = usize::from(change.at);
+    let bytes = change.bytes;
     let end = at + bytes.len();
     same_start(after, before, at) && has_at(after, at, bytes) && same_end(after, before, end)
 }
@@ -238,21 +255,18 @@ impl<'a> Slices<'a> {
     }
 
     // Compares a call's outcome with the list.
-    fn compared(&self, before: &Slices<'_>, reply: Reply, answer: &[u8]) -> Same {
-        let of_sheet = rest(answer, 24);
-        let of_frame = after_change(of_sheet);
-        let of_output = after_change(of_frame);
+    fn compared(&self, before: &Slices<'_>, reply: Reply, call: Call<'_>) -> Same {
         Same {
-            reply: reply == reply_of(answer),
-            sheet: as_stored(self.sheet, before.sheet, of_sheet),
-            frame: as_stored(self.frame, before.frame, of_frame),
-            output: as_stored(self.output, before.output, of_output),
+            reply: reply == call.reply,
+            sheet: as_stored(self.sheet, before.sheet, call.sheet),
+            frame: as_stored(self.frame, before.frame, call.frame),
+            output: as_stored(self.output, before.output, call.output),
         }
     }
 }
 
 // How often each kind of call was answered, how often it was refused, and how often the outcome differs.
-#[derive(Clone, Copy, Default)]
+#[derive(Clone, Copy, Debug, Default, PartialEq, Eq)]
 struct Counts {
     kinds: [u64; 16],
     refused: u64,
@@ -262,10 +276,10 @@ struct Counts {
 impl Counts {
     // Counts a call.
     fn count(&mut self, call: Call<'_>, same: Same) {
-        if let Some(kind) = self.kinds.get_mut(usize::from(call.kind())) {
+        if let Some(kind) = self.kinds.get_mut(usize::from(call.kind)) {
             *kind = kind.wrapping_add(1);
         }
-        if u32_of(call.answer()) != 0 {
+        if call.reply.code != 0 {
             self.refused = self.refused.wrapping_add(1);
         }
         if !same.is_all() {
@@ -310,10 +324,10 @@ fn replay_case<'a>(
         let (call, next) = first_call(behind)?;
         before.keep(&slices);
         let reply = slices.make(call);
-        let same = slices.compared(&before, reply, call.answer());
+        let same = slices.compared(&before, reply, call);
         counts.count(call, same);
         if !same.is_all() {
-            let kind = call.kind();
+            let kind = call.kind;
             let _ = println!(out; "difference: case {number}, call {i}, kind {kind}:{same}");
         }
         behind = next;

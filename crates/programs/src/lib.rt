@@ -14,7 +14,7 @@ use station::{Batch, Box};
 use std::fmt;
 
 // A reply's rectangle as the programs write it.
-#[derive(Clone, Copy)]
+#[derive(Clone, Copy, Debug, PartialEq, Eq)]
 pub struct Sides {
     pub left: i32,
     pub top: i32,
@@ -63,7 +63,7 @@ impl fmt::Display for Sides {
 }
 
 // Why a program writes nothing else; a refusal by its number, as a reply of the C interface has it.
-#[derive(Clone, Copy)]
+#[derive(Clone, Copy, Debug, PartialEq, Eq)]
 pub enum Fault {
     Refused(u32),
     TooShort,

@@ -1,4 +1,5 @@
-// A font and an item of an accepted sheet, by their numbers.
+// A font and an item of an accepted sheet, by their numbers. They are two types, and not one over a marker: that would need a trait with the two facts
+// here and the two counts of `font` and `item`, and take more lines than it saves.
 ghost use Rattle.sheet.specs.Requires.{FontListed, ItemListed};
 
 use sheet::Sheet;

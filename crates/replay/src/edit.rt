@@ -7,7 +7,7 @@ ghost use Rattle.replay.specs.Spelled.{spelled};
 use station::Box;
 
 // An edit of an item: a new text, a new place or a new style. Its item's number is part of it, and not beside it as in a list of edits: a case stores one of both.
-#[derive(Clone, Copy)]
+#[derive(Clone, Copy, Debug, PartialEq, Eq)]
 pub enum Edit<'a> {
     Text(u32, &'a [u8]),
     Place(u32, i32, i32),

@@ -1,5 +1,6 @@
 // What the programs that replay a stored list share: numbers and parts read from it, its entries, bytes stored, replies in one form, and the edits.
-// A list that ends early has zeros for the missing bytes, and shorter parts.
+// A list that ends early has zeros for the missing bytes, and shorter parts. So the fixed places of a record are read by their offsets: where they are cut
+// off in turn, each place has to say anew what it is in a list that ends before it.
 #![tactic(auto)]
 
 ghost use Rattle.std.specs.Prelude.{◌≡◌, true, ◌+◌, ◌*◌, ◌^◌, ◌<◌, ◌≤◌, min, leb, length, get_or, take, drop};

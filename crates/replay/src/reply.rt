@@ -5,7 +5,7 @@ ghost use Rattle.replay.specs.Replies.{numbers, batch_numbers, reply_numbers};
 use station::{Batch, Box, Drawn, Glyph, Number, Position, Step};
 
 // The numbers of a reply. A list's reply has the same, but its type is another crate's, and conversions into a type stand in its own.
-#[derive(Clone, Copy, PartialEq, Eq)]
+#[derive(Clone, Copy, Debug, PartialEq, Eq)]
 pub struct Reply {
     pub code: u32,
     pub made: u32,

@@ -8,7 +8,6 @@ ghost use Rattle.std.specs.Prelude.{◌≤◌};
 
 use programs::{Fault, Sides, pixel_count, write_fault, write_part};
 use reading::read_full;
-use sheet::fields::u32_at;
 use station::station_edit_list;
 
 // Makes a list and writes what came of it.
@@ -43,7 +42,7 @@ fn sheet_length(rt: &HostRuntime) -> usize
 {
     let mut head = [0u8; 4];
     read_full(&mut rt.stdin(), &mut head);
-    u32_at(&head, 0).min(65537)
+    (u32::from_le_bytes(head) as usize).min(65537)
 }
 
 fn main(rt: HostRuntime) {

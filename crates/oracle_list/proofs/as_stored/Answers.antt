@@ -6,9 +6,6 @@ use Rattle.oracle_list.proofs.as_stored.Goals as goal
 pub returns-then-has_at : goal.returns-then-has_at
 returns-then-has_at c =
     λ t. elim c.if-same_start.branch [
-      | then-same_start w ↦ changed_is _ _ _ _ _ _ c.length_at-at.ensures.0 c.length_at-size.ensures.0 c.part-bytes.ensures (c.same_start.ensures.0 w.if-same_start.true) (w.has_at.ensures.0 (cc (w.value-is, c.if-has_at.true))) (c.same_end.ensures.0 t)
+      | then-same_start w ↦ changed_is _ _ _ _ _ c.from-at.ensures (c.same_start.ensures.0 w.if-same_start.true) (w.has_at.ensures.0 (cc (w.value-is, c.if-has_at.true))) (c.same_end.ensures.0 t)
       | else-same_start w ↦ cc
     ]
-
-pub returns-else-has_at : goal.returns-else-has_at
-returns-else-has_at c = λ t. cc (t, c.if-has_at.false)

@@ -15,8 +15,8 @@ pub returns-in-Err-clause-frame_after : goal.returns-in-Err-clause-frame_after
 unfolding edit_list_sheet edit_list_frame
 returns-in-Err-clause-frame_after c = kept _ _ c.in-Err.ensures.value _ _
 
-pub make_list-made-requires-clause-checked : goal.make_list-made-requires-clause-checked
-make_list-made-requires-clause-checked c = list_checked _ _ _ c.in_default.ensures.value
+pub make_list-made-requires : goal.make_list-made-requires
+make_list-made-requires c = list_checked _ _ _ c.in_default.ensures.value
 
 pub returns-clause-value : goal.returns-clause-value
 returns-clause-value c = list_replied _ _ _ c.in_default.ensures.value _ _ c.batch_reply.ensures c.make_list-made.ensures.result_value
