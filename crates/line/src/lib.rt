@@ -86,7 +86,7 @@ struct DrawnGlyphs {
 }
 
 // Columns of the target: a character that ends before `first`, or starts at `end` or after it, stands beside them. All columns are columns too,
-// so that one test serves: with an option, tested for each character, a page takes 1.02 to 1.08 of its time.
+// so that one test serves: with an option, tested for each character, a page takes up to 1.08 of its time.
 #[derive(Clone, Copy, PartialEq, Eq, Debug)]
 struct Columns {
     first: u32,
