@@ -1,4 +1,5 @@
-// The usual forms of a glyph's lines, read at the head of a text: one blank between words, and a feed at the end; and a bitmap line. What is given is what follows.
+// The usual forms of a glyph's lines, read at the head of a text: one blank between words, and a feed at the end; and a bitmap line.
+// What each gives is what follows the feed.
 ghost use Rattle.std.specs.Prelude.{◌≡◌, ◌≤◌, ◌<◌, IfSome, MatchOption, length};
 ghost use Rattle.characters.specs.Lines.{line_length, line_from};
 ghost use Rattle.bdf_lines.specs.Keywords.{start_char, swidth, dwidth, bitmap, end_char};

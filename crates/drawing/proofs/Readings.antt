@@ -1,7 +1,7 @@
 -- An item as it is read: what holds of its text holds of the definitions' item. Assumes nothing.
 use Prim.Native.Nat.{ℕ, ◌+◌, ◌-◌}
 use mathlib.Core.Path.{◌≡◌, refl, sym, ◌∙◌}
-use mathlib.Core.Bool.{Bool, true, cond}
+use mathlib.Core.Bool.{Bool, true}
 use mathlib.Core.List.{List}
 use Rattle.geometry.specs.declared.Point.{Point}
 use Rattle.geometry.specs.declared.Rectangle.{Rectangle}
@@ -28,11 +28,11 @@ module _ (b : List ℕ) (n : ℕ) (t : Lent.Text) (ef : lent_font t ≡ item_fon
   unfolding item_layer
   item_painted before after p = rw (ef, et) at p
 
-  pub item_next : (replies : Bool) (p : Point) → p ≡ cond replies (next t.layout.metrics.font (lent_text t.layout)) t.layout.position → p ≡ cond replies (next (item_font b n).mono (item b n)) (item b n).position
-  item_next replies p e = e ∙ rw (← ef, ← et)
+  pub item_next : (p : Point) → p ≡ next t.layout.metrics.font (lent_text t.layout) → p ≡ next (item_font b n).mono (item b n)
+  item_next p e = e ∙ rw (← ef, ← et)
 
-  pub item_replaced : (replies : Bool) (m : ℕ) → m ≡ cond replies (replaced (lent_font t) (lent_text t.layout)) 0 → m ≡ cond replies (replaced (item_font b n) (item b n)) 0
-  item_replaced replies m e = rw (ef, et) at e
+  pub item_replaced : (m : ℕ) → m ≡ replaced (lent_font t) (lent_text t.layout) → m ≡ replaced (item_font b n) (item b n)
+  item_replaced m e = rw (ef, et) at e
 
 -- ---- an item as it is measured
 

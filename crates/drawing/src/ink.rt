@@ -3,7 +3,7 @@ ghost use Rattle.std.specs.Prelude.{◌≡◌, true};
 ghost use Rattle.geometry.specs.Rectangle.{is_empty, intersection};
 ghost use Rattle.drawing.specs.Items.{ink_of};
 
-use geometry::Rectangle;
+use geometry::{DrawTarget, Rectangle};
 use records::ItemRecord;
 
 // Whether an item starts below a clip, so that the clip does not meet its ink box; the text is not read.
@@ -20,13 +20,14 @@ fn starts_below(item: ItemRecord<'_>, clip: Rectangle) -> bool
 // and columns leave it open, and where the clip has not the column of its x, in or near which nearly every line stands. Of a clip that is the
 // whole frame it is only asked whether the item starts below it.
 #[tactic(auto, using(crate::proofs::Readings::item_apart, crate::proofs::Readings::item_ink_lem, crate::proofs::Painting::missed))]
-pub fn is_missed(item: ItemRecord<'_>, clip: Rectangle, whole: bool) -> bool
-    ensures { result ≡ true → is_empty (intersection (ink_of item.entry) clip) ≡ true }
+pub fn is_missed(item: ItemRecord<'_>, target: DrawTarget) -> bool
+    ensures { result ≡ true → is_empty (intersection (ink_of item.entry) target.clip_area) ≡ true }
 {
+    let clip = target.clip_area;
     if starts_below(item, clip) {
         return true;
     }
-    if whole {
+    if clip.width as usize == target.width && clip.height as usize == target.height {
         return false;
     }
     let layout = item.layout();

@@ -1,7 +1,7 @@
 // The fresh drawing of a sheet, and repainting.
 #![tactic(auto)]
 
-ghost use Rattle.std.specs.Prelude.{◌≡◌, cond, ◌≤◌, length};
+ghost use Rattle.std.specs.Prelude.{◌≡◌, ◌≤◌, length};
 ghost use Rattle.geometry.specs.Layer.{paint, frame_of};
 ghost use Rattle.geometry.specs.Canvas.{Canvas};
 ghost use Rattle.geometry.specs.Painted.{Painted};
@@ -57,35 +57,25 @@ fn whole_frame<'a>(sheet: Sheet<'_>, greys: &'a mut [u8]) -> Frame<'a>
     Frame::new(greys, target_of(sheet, clip))
 }
 
-// Draws an item in a frame's clip; replies its next position and how many characters are not listed, if `replies`.
-#[tactic(auto, using(crate::proofs::Readings::item_next, crate::proofs::Readings::item_replaced))]
-fn draw_item_in(item: ItemRecord<'_>, frame: &mut Frame, replies: bool) -> DrawnText
-    ensures painted { Painted frame.old (layer_of item.entry) frame.new }
-    ensures next_value { result.next ≡ cond replies (next (font_of item.entry).mono (text_of item.entry)) (text_of item.entry).position }
-    ensures replaced_value { result.replaced ≡ cond replies (replaced (font_of item.entry) (text_of item.entry)) 0 }
-{
-    item.to_text().draw(frame, replies)
-}
-
 // Draws an item in a frame's clip; one whose ink box the clip does not meet is not drawn.
 #[tactic(auto, using(crate::proofs::Painting::item_missed))]
-fn draw_met_item(item: ItemRecord<'_>, frame: &mut Frame, whole: bool)
+fn draw_met_item(item: ItemRecord<'_>, frame: &mut Frame)
     ensures { Painted frame.old (layer_of item.entry) frame.new }
 {
-    if is_missed(item, frame.target.clip_area, whole) {
+    if is_missed(item, frame.target) {
         return;
     }
-    draw_item_in(item, frame, false);
+    item.to_text().paint(frame);
 }
 
-// Draws the items in a frame's clip, in order; `whole` says that the clip is the frame, which saves the ink boxes.
+// Draws the items in a frame's clip, in order.
 #[tactic(auto, using(crate::proofs::Painting::items_start, crate::proofs::Painting::items_step, crate::proofs::Painting::items_end))]
-fn draw_items(sheet: Sheet<'_>, frame: &mut Frame, whole: bool)
+fn draw_items(sheet: Sheet<'_>, frame: &mut Frame)
     ensures { Painted frame.old (items_layer sheet.entry.bytes.now (order sheet.entry.bytes.now)) frame.new }
 {
     let items = sheet.header().item_count();
     for n in 0..items {
-        draw_met_item(ItemRecord { sheet, number: n }, frame, whole);
+        draw_met_item(ItemRecord { sheet, number: n }, frame);
     }
 }
 
@@ -96,11 +86,10 @@ pub fn repaint(sheet: Sheet<'_>, frame: &mut [u8], area: Rectangle)
     ensures { frame.new ≡ repainted sheet.entry.bytes.now area frame.old }
 {
     let target = target_of(sheet, area);
-    let whole = area.width as usize == target.width && area.height as usize == target.height;
     let mut frame = Frame::new(frame, target);
     let grey = sheet.header().paper();
     frame.fill_solid(area, grey);
-    draw_items(sheet, &mut frame, whole);
+    draw_items(sheet, &mut frame);
 }
 
 // `Framed` stays a clause here and below: it ties a sheet to the frame that is lent with it.
@@ -116,6 +105,7 @@ pub fn draw(sheet: Sheet<'_>, frame: &mut [u8])
 }
 
 // Draws an item on a frame of the sheet's size; gives its next position, and how many characters of its lines are not listed.
+#[tactic(auto, using(crate::proofs::Readings::item_next, crate::proofs::Readings::item_replaced))]
 pub fn draw_item(item: ItemRecord<'_>, frame: &mut [u8]) -> DrawnText
     requires { Framed item.sheet.bytes.now frame.old }
     ensures frame_after { frame.new ≡ paint (frame_width item.entry.sheet.bytes.now) (layer_of item.entry) frame.old }
@@ -123,7 +113,7 @@ pub fn draw_item(item: ItemRecord<'_>, frame: &mut [u8]) -> DrawnText
     ensures replaced_value { result.replaced ≡ replaced (font_of item.entry) (text_of item.entry) }
 {
     let mut frame = whole_frame(item.sheet, frame);
-    draw_item_in(item, &mut frame, true)
+    item.to_text().draw(&mut frame)
 }
 
 // Draws whitespace of a width at an item's place in a frame's clip; gives the next position.

@@ -211,16 +211,8 @@ impl<'a> Trial<'a> {
         self.frame[..] == self.page[..]
     }
 
-    // Compares a case drawn in two parts with the whole.
-    fn try_cut(
-        &mut self,
-        case: Case<'_>,
-        setting: &[u8],
-        whole: Option<Returned>,
-        cut: usize,
-        tally: &mut Tally,
-    ) {
-        self.place_item(case.item, setting);
+    // Compares a case drawn in two parts, where the item is placed, with the whole.
+    fn try_cut(&mut self, case: Case<'_>, whole: Option<Returned>, cut: usize, tally: &mut Tally) {
         fill_strange(self.frame, 11);
         let parts = case.draw_parts(self.sheet, self.frame, cut).ok();
         if parts.is_none() || whole.is_none() {
@@ -239,7 +231,8 @@ impl<'a> Trial<'a> {
         tally.replaced = tally.replaced.wrapping_add(replaced);
         tally.sum = checksum(tally.sum, self.page);
         for cut in case.content.cuts() {
-            self.try_cut(case, setting, whole, cut, tally);
+            self.place_item(case.item, setting);
+            self.try_cut(case, whole, cut, tally);
         }
     }
 

@@ -95,7 +95,7 @@ struct Columns {
 
 // A line with what its glyphs are drawn with: the image of its font's atlas, where the search in the font's mapping starts, and the columns
 // in which characters are looked up.
-#[derive(Clone, Copy)]
+#[derive(Clone, Copy, Debug, PartialEq, Eq)]
 struct PreparedLine<'a> {
     line: Line<'a>,
     image: ImageRaw<'a>,

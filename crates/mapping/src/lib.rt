@@ -113,7 +113,8 @@ fn entry_at(mapping: &[u8], c: Cursor) -> Entry
 }
 
 // The first position of a character in the list that the bytes spell, counted from `count`, or 65,536 for every position from there on. No
-// iterator of entries: between two of them bytes may be passed over in blocks.
+// iterator of entries: between two of them bytes may be passed over in blocks. `well_formed` stays a clause here and below: the bytes are others
+// at each turn.
 fn find(mapping: &[u8], count: u64, ch: u32) -> Option<u32>
     requires well { well_formed mapping.now ≡ true }
     requires count_bound { count ≤ 65_536 }

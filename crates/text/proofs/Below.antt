@@ -1,53 +1,45 @@
--- Lines below a clip: they paint nothing in it, so that a drawing without a reply leaves them out. Assumes nothing.
+-- Lines below a clip: they paint nothing in it, so that a drawing without a reply ends at the first of them. Assumes nothing.
 use Prim.Native.Nat.{ℕ, ◌+◌, ◌-◌, ◌<◌}
 use native.Mathlib.Omega.{arith}
-use mathlib.Core.Path.{◌≡◌, refl, sym, ◌∙◌}
-use mathlib.Core.Bool.{Bool, true, false, cond, true≢false}
+use mathlib.Core.Path.{◌≡◌, refl, ◌∙◌}
+use mathlib.Core.Bool.{Bool, true, false, cond}
 use mathlib.Core.List.{List, [], ◌∷◌}
+use lib.Dec.{leb}
+use lib.ListN.{length, drop}
 use borrow.Author.Tests.{leb-true}
-use Rattle.geometry.specs.declared.Rectangle.{Rectangle}
+use Rattle.characters.specs.Lines.{lines}
 use Rattle.geometry.specs.declared.DrawTarget.{DrawTarget}
 use Rattle.geometry.specs.Canvas.{paint_on}
 use Rattle.line.specs.declared.MonoFont.{MonoFont}
 use Rattle.line.specs.Line.{Font, top_edge}
 use Rattle.line.specs.Line
 use Rattle.line.proofs.Painting.{paint_unseen}
-use Rattle.text.specs.declared.TextStyle.{TextStyle}
-use Rattle.text.specs.Text.{Text, line_height, place_line, place_lines, lines_layer, line_ink}
-use Rattle.text.specs.Lines.{is_below, is_left_out}
+use Rattle.text.specs.Text.{Text, laid_out, line_height, place_line, place_lines, lines_layer, line_ink}
+use Rattle.text.specs.Lines.{is_below}
+use Rattle.text.specs.declared.placed.TextLines.{TextLines}
+use Rattle.text.specs.Remaining.{source, lines_left}
 use Rattle.text.proofs.Ink.{line_out}
 
 module _ (f : Font) (t : Text) where
-  -- lines from y on paint nothing above the top edge of the first
-  lines-above : (ls : List (List ℕ)) (y c r grey : ℕ) → r < top_edge f.mono t.text_style.baseline y → lines_layer f t (place_lines f.mono t ls y) c r grey ≡ grey
+  -- lines from y on, of whatever text they are, paint nothing above the top edge of the first
+  lines-above : (m : MonoFont) (u : Text) (ls : List (List ℕ)) (y c r grey : ℕ) → r < top_edge f.mono t.text_style.baseline y → lines_layer f t (place_lines m u ls y) c r grey ≡ grey
   unfolding lines_layer place_lines place_line line_ink Line.ink_box
-  lines-above [] y c r grey h = refl
-  lines-above (l ∷ ls) y c r grey h =
-      lines-above ls (y + line_height f.mono t.text_style.line_height) c r _ (omega arith) ∙ line_out f t c r (place_line f.mono t l y) grey (λ i. omega arith)
+  lines-above m u [] y c r grey h = refl
+  lines-above m u (l ∷ ls) y c r grey h =
+      lines-above m u ls (y + line_height m u.text_style.line_height) c r _ (omega arith) ∙ line_out f t c r (place_line m u l y) grey (λ i. omega arith)
 
-  -- so those below a clip paint nothing in it
-  pub lines_below : (target : DrawTarget) (ls : List (List ℕ)) (y : ℕ) (xs : List ℕ) → is_below target.clip_area (top_edge f.mono t.text_style.baseline y) ≡ true
-      → xs ≡ paint_on target (lines_layer f t (place_lines f.mono t ls y)) xs
-  unfolding is_below
-  lines_below target ls y xs e =
-      let h = leb-true target.clip_area.height (top_edge f.mono t.text_style.baseline y - target.clip_area.top) e in
-      paint_unseen target _ xs (λ c r grey i. lines-above ls y c r grey (omega arith))
+  module _ (target : DrawTarget) (xs : List ℕ) where
+    pub nothing_painted : xs ≡ paint_on target (lines_layer f t []) xs
+    unfolding lines_layer
+    nothing_painted = paint_unseen target _ xs (λ c r grey i. refl)
 
--- ---- `is_left_out`
-
-module _ (clip : Rectangle) (m : MonoFont) (t : TextStyle) (y : ℕ) (replies : Bool) where
-  -- what a line that is left out tells
-  module _ (left : Bool) (el : left ≡ is_left_out clip m t y replies) (holds : left ≡ true) where
-    both : (replies ≡ false) × (is_below clip (top_edge m t.baseline y) ≡ true)
-    unfolding is_left_out
-    both = go replies (sym el ∙ holds)
+    -- so those left that stand below a clip paint nothing in it
+    pub lines_below : (s : TextLines) → is_below target.clip_area (top_edge f.mono t.text_style.baseline s.y) ≡ true
+        → xs ≡ paint_on target (lines_layer f t (lines_left s)) xs
+    unfolding lines_left is_below
+    lines_below s e = go (leb s.from (length (source s)))
       where
-        go : (b : Bool) → cond b false (is_below clip (top_edge m t.baseline y)) ≡ true → (b ≡ false) × (is_below clip (top_edge m t.baseline y) ≡ true)
-        go true h = absurd (true≢false (sym h))
-        go false h = (refl, h)
-
-    pub left_unasked : replies ≡ false
-    left_unasked = both.0
-
-    pub left_unshown : is_below clip (top_edge m t.baseline y) ≡ true
-    left_unshown = both.1
+        go : (b : Bool) → xs ≡ paint_on target (lines_layer f t (cond b (place_lines s.layout.now.metrics.font (laid_out s.layout.now (source s)) (lines (drop s.from (source s))) s.y) [])) xs
+        go true = paint_unseen target _ xs (λ c r grey i. lines-above s.layout.now.metrics.font (laid_out s.layout.now (source s)) (lines (drop s.from (source s))) s.y c r grey
+            (let h = leb-true target.clip_area.height (top_edge f.mono t.text_style.baseline s.y - target.clip_area.top) e in omega arith))
+        go false = nothing_painted

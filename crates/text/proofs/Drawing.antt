@@ -1,32 +1,31 @@
 -- A text drawn line by line: what is drawn, counted and left at each line. Assumes nothing.
-use Prim.Native.Nat.{ℕ, ◌+◌, ◌-◌, ◌<◌, ◌≤◌}
+use Prim.Native.Nat.{ℕ, ◌+◌}
 use native.Mathlib.Omega.{arith}
-use mathlib.Core.Path.{◌≡◌, refl, sym, ◌∙◌}
-use mathlib.Core.Bool.{Bool, true, false, cond}
+use mathlib.Core.Path.{◌≡◌, sym, ap, ◌∙◌}
+use mathlib.Core.Bool.{Bool, true, cond}
+use Rattle.std.specs.Prelude.{Option, Some, None, unwrap_or}
 use mathlib.Core.List.{List, []}
-use lib.ListN.{length, take, drop}
+use lib.ListN.{length}
+use denote.Ref.{Bor}
 use mir.Syntax.{w32}
 use mir.Val.{Fits}
-use Rattle.std.specs.Prelude.{Option, Some, None, unwrap_or}
 use Rattle.geometry.specs.declared.Point.{Point}
 use Rattle.geometry.specs.declared.canvas.Frame.{Frame}
 use Rattle.geometry.specs.Painted.{Painted}
 use Rattle.geometry.proofs.Paintings.{painted_none, painted_then}
 use Rattle.characters.specs.Utf8.{chars}
-use Rattle.characters.specs.Lines.{lines, without_return, line_length, line_from}
-use Rattle.characters.proofs.Feeds.{line_part, lines_last, lines_more, lines_first}
-use Rattle.line.specs.declared.MonoFont.{MonoFont}
-use Rattle.line.specs.Line.{Font, font_of, unlisted, string, advance}
-use Rattle.line.specs.Limits.{FontLimits}
+use Rattle.characters.specs.Lines.{without_return}
+use Rattle.line.specs.Line.{Font, font_of, top_edge, unlisted, string, advance}
 use Rattle.text.specs.declared.texts.TextLayout.{TextLayout}
 use Rattle.text.specs.declared.texts.TextLine.{TextLine}
-use Rattle.text.specs.Text.{Text, PlacedLine, text_of, line_height, place_line, place_lines, placed_lines, line_layer, lines_layer, layer, line_next, last_next, next, line_replaced, lines_replaced, replaced}
-use Rattle.text.specs.Lines.{line_corner, is_left_out}
-use Rattle.text.specs.Limits.{TextLimits}
-use Rattle.text.specs.Lent.{line_text, placed_line}
-use Rattle.text.proofs.Places.{LineStart, start-next}
-use Rattle.text.proofs.Below.{lines_below, left_unasked, left_unshown}
-use Rattle.text.proofs.Replaced.{count_no_lines, count_lines, part_count, part_few, count_fits}
+use Rattle.text.specs.declared.placed.TextLines.{TextLines}
+use Rattle.text.specs.declared.texts.Text as Lent
+use Rattle.text.specs.Text.{Text, place_line, placed_lines, line_layer, lines_layer, layer, line_next, last_next, next, line_replaced, lines_replaced, replaced}
+use Rattle.text.specs.Lines.{line_corner, is_below}
+use Rattle.text.specs.Lent.{lent_font, lent_text, line_text, placed_line}
+use Rattle.text.specs.Remaining.{lines_left, LineGiven}
+use Rattle.text.proofs.Below.{nothing_painted, lines_below}
+use Rattle.text.proofs.Replaced.{replaced_few}
 
 -- ---- `draw_line`: `corner` is the line's corner, `shown` its bytes without the return, and `f` the text's font
 
@@ -45,108 +44,69 @@ module _ (t : TextLayout) (l : TextLine) (atlas mapping : List ℕ) (f : Font) (
   unfolding line_replaced place_line
   line_count counts r p = rw (ef, e) at p
 
--- what is told where it is asked for, and else 0
-pub told_count : (counts : Bool) (n k : ℕ) (told : Option ℕ) → told ≡ cond counts (Some n) None → k ≡ unwrap_or told 0 → k ≡ cond counts n 0
-told_count true n k told e f = f ∙ rw e
-told_count false n k told e f = f ∙ rw e
+-- ---- `draw` and `paint`
 
--- ---- `draw`
+module _ (self : Lent.Text) where
+  abbrev f : Font
+  f = lent_font self
 
--- there is always a line more, so what was the next position before it does not matter
-next_any : (m : MonoFont) (t : Text) (p q : Point) (u : List ℕ) (y : ℕ) → last_next m t p (place_lines m t (lines u) y) ≡ last_next m t q (place_lines m t (lines u) y)
-unfolding last_next place_lines
-next_any m t p q u y = rw (lines_first u)
+  abbrev t : Text
+  t = lent_text self.layout
 
-module _ (f : Font) (t : Text) (replies : Bool) (first : Frame) where
-  -- the lines from a position of the text on
-  abbrev left : ℕ → ℕ → List PlacedLine
-  left from y = place_lines f.mono t (lines (drop from t.text)) y
+  module _ (first : Frame) where
+    -- what is painted at a line: those before it are
+    pub record LinesPainted (s : TextLines) (frame : Frame) : Type 0 where
+      pub whole : (last : Frame) → Painted frame (lines_layer f t (lines_left s)) last → Painted first (layer f t) last
+      pub same_layout : s.layout.now ≡ self.layout
 
-  -- how many characters of a list of lines are counted
-  abbrev count : List PlacedLine → ℕ
-  count ls = cond replies (lines_replaced f.mapping ls) 0
+    pub paint_start : (s : TextLines) → s.layout.now ≡ self.layout → lines_left s ≡ placed_lines f.mono t → LinesPainted s first
+    unfolding layer
+    paint_start s same e = record { whole = λ last p. rw e at p; same_layout = same }
 
-  -- the state of the loop at a line: the lines before it are drawn, and `n` of their characters are counted
-  pub record LinesDrawn (from y n : ℕ) (frame : Frame) : Type 0 where
-    pub whole : (last : Frame) → Painted frame (lines_layer f t (left from y)) last → Painted first (layer f t) last
-    pub position : last_next f.mono t t.position (left from y) ≡ next f.mono t
-    pub counted : n + count (left from y) ≡ cond replies (replaced f t) 0
-    pub few : n ≤ from
-    pub start : LineStart t.text t.position.y from y
-    pub same_target : frame.target ≡ first.target
+    module _ (s : TextLines) (frame : Frame) (d : LinesPainted s frame) where
+      pub paint_end : lines_left s ≡ [] → Painted first (layer f t) frame
+      paint_end e = d.whole frame (painted_none frame _ (rw e (nothing_painted f t frame.target frame.greys.now)))
 
-  pub lines_start : LinesDrawn 0 t.position.y 0 first
-  unfolding layer next replaced placed_lines
-  lines_start = record { whole = λ last p. p; position = refl; counted = omega arith; few = omega arith; start = omega arith; same_target = refl }
+      module _ (l : TextLine) (next : TextLines) (g : LineGiven s l next) where
+        pub paint_step : (after : Frame) → Painted frame (line_layer f (line_text self.layout l) (placed_line self.layout l)) after → LinesPainted next after
+        unfolding lines_layer line_layer
+        paint_step after p = record {
+          whole = λ last r. d.whole last (rw (g.first, d.same_layout) (painted_then frame _ _ after last p r));
+          same_layout = ap (λ (b : Bor TextLayout). b.now) g.same_layout ∙ d.same_layout;
+        }
 
-  -- where a line is left out, all that is shown is drawn
-  module _ (from y n : ℕ) (left_out : Bool) (frame : Frame) (d : LinesDrawn from y n frame) (holds : left_out ≡ true) (el : left_out ≡ is_left_out first.target.clip_area f.mono t.text_style y replies) where
-    pub left_painted : Painted first (layer f t) frame
-    left_painted = d.whole frame (painted_none frame _ (lines_below f t frame.target (lines (drop from t.text)) y frame.greys.now (rw d.same_target (left_unshown _ _ _ _ replies left_out el holds))))
+        -- where the line lies below the clip, all that is shown is painted
+        pub paint_below : (r : Bool) → r ≡ is_below frame.target.clip_area (top_edge f.mono t.text_style.baseline l.position.y) → r ≡ true → Painted first (layer f t) frame
+        paint_below r e h =
+            d.whole frame (painted_none frame _ (lines_below f t frame.target frame.greys.now s (rw g.same_y at (sym e ∙ h))))
 
-    -- and where no reply is asked for, none is counted
-    pub left_count : n ≡ cond replies (replaced f t) 0
-    left_count =
-        let unasked = left_unasked _ _ _ _ replies left_out el holds in
-        let e = rw unasked at d.counted in
-        rw unasked (omega arith)
+  -- what is replied at a line: `p` is the next position of the one before it, and `n` characters of those before it are counted
+  pub record LinesCounted (s : TextLines) (p : Point) (n : ℕ) : Type 0 where
+    pub position : last_next f.mono t p (lines_left s) ≡ next f.mono t
+    pub counted : n + lines_replaced f.mapping (lines_left s) ≡ replaced f t
 
-    -- nor a next position given
-    pub left_position : t.position ≡ cond replies (next f.mono t) t.position
-    left_position = rw (left_unasked _ _ _ _ replies left_out el holds)
+  pub count_start : (s : TextLines) → lines_left s ≡ placed_lines f.mono t → LinesCounted s self.layout.position 0
+  unfolding next replaced
+  count_start s e = record { position = rw e; counted = rw e (omega arith) }
 
-  module _ (from end y n : ℕ) (frame : Frame) (d : LinesDrawn from y n frame) (e : end ≡ from + line_length (drop from t.text)) where
-    abbrev part : List ℕ
-    part = take (end - from) (drop from t.text)
+  module _ (s : TextLines) (p : Point) (n : ℕ) (d : LinesCounted s p n) where
+    pub next_end : lines_left s ≡ [] → p ≡ next f.mono t
+    unfolding last_next
+    next_end e = rw e at d.position
 
-    -- the part as a text of its own
-    abbrev alone : Text
-    alone = text_of part t.position.x y t.character_style t.text_style
+    pub count_end : lines_left s ≡ [] → n ≡ replaced f t
+    unfolding lines_replaced
+    count_end e = let h = rw e at d.counted in omega arith
 
-    abbrev here : PlacedLine
-    here = place_line f.mono t (line_from t.text from) y
+    module _ (l : TextLine) (later : TextLines) (g : LineGiven s l later) (same : s.layout.now ≡ self.layout)
+        (told : Option ℕ) (et : told ≡ cond true (Some (line_replaced self.mapping.bytes.now (placed_line self.layout l))) None) (k : ℕ) (ek : k ≡ unwrap_or told 0) where
+      counts : n + k + lines_replaced f.mapping (lines_left later) ≡ replaced f t
+      unfolding lines_replaced
+      counts = let h = rw (g.first, same) at d.counted in let e : k ≡ line_replaced self.mapping.bytes.now (placed_line self.layout l) = ek ∙ rw et in omega arith
 
-    module _ (next-frame : Frame) (p : Painted frame (line_layer f alone (place_line f.mono alone part y)) next-frame) where
-      one-painted : Painted frame (line_layer f t here) next-frame
-      unfolding line_layer place_line
-      one-painted = rw (line_part t.text from end e) at p
+      pub count_fits : Fits w32 (n + k)
+      count_fits = let h = counts in let few = replaced_few f t in let short = self.layout.limits.text_short in omega arith
 
-      pub draw_last : length t.text ≤ end → Painted first (layer f t) next-frame
-      unfolding lines_layer place_lines
-      draw_last h = d.whole next-frame (rw (lines_last t.text from end d.start.reach e h) one-painted)
-
-      pub lines_step : (height k : ℕ) → FontLimits f.mono → TextLimits (length t.text) t.position.x t.position.y t.text_style.line_height
-          → height ≡ line_height f.mono t.text_style.line_height → end < length t.text
-          → k ≡ cond replies (line_replaced f.mapping (place_line f.mono alone part y)) 0
-          → LinesDrawn (end + 1) (y + height) (n + k) next-frame
-      unfolding lines_layer place_lines last_next
-      lines_step height k font limits h less q =
-          let l = lines_more t.text from end d.start.reach e less in
-          record {
-            whole = λ last r. d.whole last (rw (l, ← h) (painted_then frame _ _ next-frame last one-painted r));
-            position = rw h (next_any f.mono t t.position (line_next f.mono t here) (drop (end + 1) t.text) _ ∙ sym (rw l) ∙ d.position);
-            counted = rw h
-                (let i = part_count replies f.mapping f.mono t from end y k e q in
-                let j = rw l at d.counted in
-                let s = count_lines replies f.mapping here (left (end + 1) (y + line_height f.mono t.text_style.line_height)) in
-                omega arith);
-            few = let i = part_few replies f.mapping f.mono t from end y k e q in omega arith;
-            start = start-next t.text t.position.x t.position.y from end y height f.mono t.text_style.line_height font limits d.start h e less;
-            same_target = p.same_target ∙ d.same_target;
-          }
-
-    pub count_last : (k : ℕ) → length t.text ≤ end → k ≡ cond replies (line_replaced f.mapping (place_line f.mono alone part y)) 0 → n + k ≡ cond replies (replaced f t) 0
-    unfolding place_lines
-    count_last k h q =
-        let i = part_count replies f.mapping f.mono t from end y k e q in
-        let j = rw (lines_last t.text from end d.start.reach e h) at d.counted in
-        omega (arith, count_lines replies f.mapping here [], count_no_lines replies f.mapping)
-
-    pub total_fits : (k : ℕ) → length t.text ≤ 4_096 → k ≡ cond replies (line_replaced f.mapping (place_line f.mono alone part y)) 0 → Fits w32 (n + k)
-    total_fits k short q = count_fits replies f.mapping f.mono t from end y k e q n d.few d.start.reach short
-
-    -- the next position of the last line, if it is asked for
-    pub next_last : (r : ℕ) → replies ≡ true → length t.text ≤ end → r ≡ (line_next f.mono alone (place_line f.mono alone part y)).x
-        → ◌≡◌ {A = Point} (record { x = r; y = y }) (cond replies (next f.mono t) t.position)
-    unfolding line_next place_line place_lines last_next
-    next_last r asked h q = rw asked (rw q (rw (line_part t.text from end e) (sym (rw (lines_last t.text from end d.start.reach e h)) ∙ d.position)))
+      pub count_step : (x : ℕ) → x ≡ (line_next f.mono (line_text self.layout l) (placed_line self.layout l)).x → LinesCounted later (record { x = x; y = l.position.y }) (n + k)
+      unfolding line_next last_next place_line
+      count_step x e = record { position = rw e (rw (g.first, same) at d.position); counted = counts }

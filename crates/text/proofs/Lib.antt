@@ -11,3 +11,4 @@ pub mod Ink
 pub mod InkBounds
 pub mod StarredLines
 pub mod Signed
+pub mod Remaining

@@ -1,21 +1,20 @@
 -- How many characters of a text are not listed: what its lines' bytes and the mapping say, whatever place, style, atlas and clip it has.
 -- Assumes nothing.
-use Prim.Native.Nat.{ℕ, ◌+◌, ◌-◌, ◌≤◌}
+use Prim.Native.Nat.{ℕ, suc, ◌+◌, ◌≤◌}
 use native.Mathlib.Omega.{arith}
 use mathlib.Core.Path.{◌≡◌, refl, ap}
-use mathlib.Core.Bool.{Bool, cond}
+use mathlib.Core.Bool.{Bool, true, false, cond}
 use mathlib.Core.List.{List, [], ◌∷◌}
-use lib.ListN.{length, take, drop, length-drop}
-use mir.Syntax.{w32}
-use mir.Val.{Fits}
+use lib.Dec.{eqb}
+use lib.ListN.{length}
 use Rattle.characters.specs.Utf8.{chars}
-use Rattle.characters.specs.Lines.{lines, without_return, line_length, line_from}
+use Rattle.characters.specs.Lines.{before, lines, without_return}
 use Rattle.characters.proofs.Folds.{length-chars}
-use Rattle.characters.proofs.Feeds.{line_part, length-line_from, length_to_feed, length-without_return}
+use Rattle.characters.proofs.Feeds.{length-without_return}
 use Rattle.line.specs.declared.MonoFont.{MonoFont}
 use Rattle.line.specs.Line.{Font, unlisted}
-use Rattle.line.proofs.Unlisted.{counted_sum, counted_none, counted_few, unlisted_few}
-use Rattle.text.specs.Text.{Text, PlacedLine, text_of, place_line, place_lines, placed_lines, line_replaced, lines_replaced, replaced}
+use Rattle.line.proofs.Unlisted.{unlisted_few}
+use Rattle.text.specs.Text.{Text, place_line, place_lines, placed_lines, line_replaced, lines_replaced, replaced}
 
 -- ---- the count by the lines' bytes alone
 
@@ -33,39 +32,31 @@ pub replaced-lines : (f : Font) (t : Text) → replaced f t ≡ unlisted_in f.ma
 unfolding replaced placed_lines
 replaced-lines f t = placed_unlisted f.mono t f.mapping (lines t.text) t.position.y
 
--- ---- where characters are counted, line by line
+-- ---- no more are counted than the text has bytes
 
-pub count_no_lines : (counts : Bool) (mapping : List ℕ) → cond counts (lines_replaced mapping []) 0 ≡ 0
-unfolding lines_replaced
-count_no_lines counts mapping = counted_none counts
+total : List (List ℕ) → ℕ
+total [] = 0
+total (l ∷ ls) = length l + total ls
 
-pub count_lines : (counts : Bool) (mapping : List ℕ) (l : PlacedLine) (ls : List PlacedLine)
-    → cond counts (lines_replaced mapping (l ∷ ls)) 0 ≡ cond counts (line_replaced mapping l) 0 + cond counts (lines_replaced mapping ls) 0
-unfolding lines_replaced
-count_lines counts mapping l ls = counted_sum counts (line_replaced mapping l) (lines_replaced mapping ls)
+total-lines : (s : List ℕ) → total (lines s) ≤ length s
+unfolding lines total
+total-lines [] = omega arith
+total-lines (c ∷ cs) = go (total-lines cs) (eqb c 0x0A)
+  where
+    with-byte : (ls : List (List ℕ)) → total (before c ls) ≤ suc (total ls)
+    with-byte [] = omega arith
+    with-byte (l ∷ ls) = omega arith
 
--- the line from one position of a text to another
+    go : total (lines cs) ≤ length cs → (b : Bool) → total (cond b ([] ∷ lines cs) (before c (lines cs))) ≤ suc (length cs)
+    go ih true = omega arith
+    go ih false = omega (arith, with-byte (lines cs))
 
-module _ (counts : Bool) (mapping : List ℕ) (m : MonoFont) (t : Text) (from end y n : ℕ) (e : end ≡ from + line_length (drop from t.text))
-    (k : n ≡ cond counts (line_replaced mapping (place_line m (text_of (take (end - from) (drop from t.text)) t.position.x y t.character_style t.text_style) (take (end - from) (drop from t.text)) y)) 0) where
-  pub part_count : n ≡ cond counts (line_replaced mapping (place_line m t (line_from t.text from) y)) 0
-  unfolding line_replaced place_line
-  part_count = rw (line_part t.text from end e) at k
+unlisted-total : (mapping : List ℕ) (ls : List (List ℕ)) → unlisted_in mapping ls ≤ total ls
+unfolding unlisted_in total
+unlisted-total mapping [] = omega arith
+unlisted-total mapping (l ∷ ls) =
+    let line = without_return l in
+    omega (arith, unlisted-total mapping ls, unlisted_few mapping (chars line), length-chars line, length-without_return l)
 
-  pub part_few : n ≤ end - from
-  unfolding line_replaced place_line
-  part_few =
-      let line = line_from t.text from in
-      omega (
-        arith,
-        part_count,
-        counted_few counts (unlisted mapping (chars (without_return line))),
-        unlisted_few mapping (chars (without_return line)),
-        length-chars (without_return line),
-        length-without_return line,
-        length-line_from t.text from,
-        e,
-      )
-
-  pub count_fits : (replaced : ℕ) → replaced ≤ from → from ≤ length t.text → length t.text ≤ 4_096 → Fits w32 (replaced + n)
-  count_fits replaced few reach short = omega (arith, part_few, length_to_feed (drop from t.text), length-drop from t.text)
+pub replaced_few : (f : Font) (t : Text) → replaced f t ≤ length t.text
+replaced_few f t = omega (arith, replaced-lines f t, unlisted-total f.mapping (lines t.text), total-lines t.text)

@@ -1,16 +1,15 @@
 -- The lines of a text as its functions find them, and their boxes. Assumes nothing.
 -- Serves contracts: nothing here has to be believed.
-use Rattle.std.specs.Prelude.{ℕ, ◌+◌, ◌-◌, ◌≡◌, Bool, false, cond, List, [], ◌∷◌, map, length, leb, eqb}
+use Rattle.std.specs.Prelude.{ℕ, ◌+◌, ◌-◌, ◌≡◌, Bool, cond, List, [], ◌∷◌, length, leb, eqb}
 use Rattle.geometry.specs.declared.Point.{Point}
 use Rattle.geometry.specs.declared.Rectangle.{Rectangle}
-use Rattle.geometry.specs.Rectangle.{joins}
 use Rattle.characters.specs.Utf8.{chars}
 use Rattle.line.specs.declared.MonoFont.{MonoFont}
 use Rattle.line.specs.Line.{top_edge, measured_width}
 use Rattle.text.specs.declared.Alignment.{Alignment}
 use Rattle.text.specs.declared.Alignment.TheVariants.{Left, Center, Right}
 use Rattle.text.specs.declared.TextStyle.{TextStyle}
-use Rattle.text.specs.Text.{Text, PlacedLine, aligned_start, placed_lines, nowhere, measured_box, line_ink}
+use Rattle.text.specs.Text.{aligned_start}
 
 -- how many line feeds a text has
 unfoldable pub feed_count : List ℕ → ℕ
@@ -35,15 +34,3 @@ line_corner m t l x y = record { x = aligned_start t.alignment x (measured_width
 -- whether no row from `top` on is one of a clip's, since they all lie below it
 unfoldable pub is_below : Rectangle → ℕ → Bool
 is_below clip top = leb clip.height (top - clip.top)
-
--- whether a line at y, and so each after it, is left out of a drawing: nothing of it is shown, and no reply is asked for
-unfoldable pub is_left_out : Rectangle → MonoFont → TextStyle → ℕ → Bool → Bool
-is_left_out clip m t y replies = cond replies false (is_below clip (top_edge m t.baseline y))
-
--- the ink box of a line, or its measured box
-unfoldable pub line_box : Bool → MonoFont → Text → PlacedLine → Rectangle
-line_box ink m t l = cond ink (line_ink m t l) (measured_box m t l)
-
--- the smallest rectangle that holds those of the lines' boxes that are not empty
-unfoldable pub lines_box : Bool → MonoFont → Text → Rectangle
-lines_box ink m t = joins (nowhere t) (map (line_box ink m t) (placed_lines m t))

@@ -6,14 +6,14 @@ ghost use Rattle.geometry.specs.Canvas.{EndsFit};
 ghost use Rattle.characters.specs.Lines.{line_from};
 ghost use Rattle.line.specs.declared.MonoTextStyle.{MonoTextStyle};
 ghost use Rattle.line.specs.Line.{character_width, spacing};
-ghost use Rattle.text.specs.Text.{text_of, laid_out, line_height, bounding_box, ink_box};
-ghost use Rattle.text.specs.Lines.{feed_count, start_reach, LiesAt, line_box, lines_box};
-ghost use Rattle.text.specs.Lent.{lent_text, line_text, placed_line};
+ghost use Rattle.text.specs.Text.{text_of, laid_out, line_height, nowhere, measured_box, bounding_box, line_ink, ink_box};
+ghost use Rattle.text.specs.Lines.{feed_count, start_reach, LiesAt};
+ghost use Rattle.text.specs.Lent.{lent_text, placed_line};
 
 use super::Alignment;
 use super::texts::{TextLayout, TextLine};
-use characters::lines::{line_end, without_return};
-use geometry::{Point, Rectangle};
+use characters::lines::{line_length, without_return};
+use geometry::Rectangle;
 
 // The line that starts at `from`: a part of the new text, or of the stored one if none is new, by its bytes and by where they lie.
 pub fn line_of<'a>(stored: &'a [u8], new: Option<&'a [u8]>, from: usize) -> &'a [u8]
@@ -22,8 +22,8 @@ pub fn line_of<'a>(stored: &'a [u8], new: Option<&'a [u8]>, from: usize) -> &'a 
     ensures lies_at { LiesAt (unwrap_or new.entry stored.entry).ref_ptr from result.ref_ptr }
 {
     let text = new.unwrap_or(stored);
-    let end = line_end(text, from);
-    &text[from..end]
+    let rest = &text[from..];
+    &rest[..line_length(rest)]
 }
 
 // How many line feeds a text has.
@@ -53,57 +53,50 @@ impl Alignment {
 }
 
 impl<'a> TextLayout<'a> {
-    // The ink box of one line of the text, or its measured box. A flag says which: a closure for each would state its box in a contract of its own.
-    fn line_box(&self, line: &TextLine, ink: bool) -> Rectangle
-        ensures { result ≡ line_box ink self.now.metrics.font (line_text self.now line.now) (placed_line self.now line.now) }
+    // The measured box of one line of the text.
+    fn line_measured_box(&self, line: &TextLine) -> Rectangle
+        ensures value { result ≡ measured_box self.now.metrics.font (lent_text self.now) (placed_line self.now line.now) }
+        ensures ends_fit { EndsFit result }
     {
         let shown = without_return(line.text);
         let corner = self.line_corner(line);
-        if ink {
-            return self.metrics.ink_box(shown, self.character_style, corner);
-        }
         self.metrics
             .measure_string(shown, self.character_style, corner)
     }
 
-    // The smallest rectangle that holds the boxes, of ink or measured, of the lines of the text, or of a new one in its place.
-    fn lines_box(&self, new: Option<&'a [u8]>, ink: bool) -> Rectangle
-        requires { length (unwrap_or new self.now.text).now ≤ 4_096 }
-        ensures value { result ≡ lines_box ink self.now.metrics.font (laid_out self.now (unwrap_or new.entry self.now.text).now) }
+    // The ink box of one line of the text.
+    fn line_ink_box(&self, line: &TextLine) -> Rectangle
+        ensures value { result ≡ line_ink self.now.metrics.font (lent_text self.now) (placed_line self.now line.now) }
         ensures ends_fit { EndsFit result }
     {
-        let start = self.position;
-        let height = self.line_height();
-        let size = new.unwrap_or(self.text).len();
-        let mut area = Rectangle {
-            left: start.x,
-            top: start.y,
+        let shown = without_return(line.text);
+        let corner = self.line_corner(line);
+        self.metrics.ink_box(shown, self.character_style, corner)
+    }
+
+    // The empty rectangle at the text's position.
+    fn nowhere(&self) -> Rectangle
+        ensures value { result ≡ nowhere (lent_text self.now) }
+        ensures ends_fit { EndsFit result }
+    {
+        Rectangle {
+            left: self.position.x,
+            top: self.position.y,
             width: 0,
             height: 0,
-        };
-        let mut from: usize = 0;
-        let mut y = start.y;
-        // No `for`: each line is a slice that begins in mid-text, past the feed where the one before ended.
-        loop {
-            let text = line_of(self.text, new, from);
-            let end = from + text.len();
-            let position = Point { x: start.x, y };
-            let line = TextLine { text, position };
-            let shown = self.line_box(&line, ink);
-            area = area.join(shown);
-            if size <= end {
-                return area;
-            }
-            from = end + 1;
-            y = y + height;
         }
     }
 
-    // The measured box of the text.
+    // The measured box of the text: the smallest rectangle that holds those of its lines.
     pub fn bounding_box(&self) -> Rectangle
         ensures { result ≡ bounding_box self.now.metrics.font (lent_text self.now) }
     {
-        self.lines_box(None, false)
+        let mut area = self.nowhere();
+        for line in self.lines() {
+            let shown = self.line_measured_box(&line);
+            area = area.join(shown);
+        }
+        area
     }
 
     // The ink box of the text.
@@ -111,16 +104,21 @@ impl<'a> TextLayout<'a> {
         ensures value { result ≡ ink_box self.now.metrics.font (lent_text self.now) }
         ensures ends_fit { EndsFit result }
     {
-        self.lines_box(None, true)
+        self.ink_box_of(None)
     }
 
-    // The ink box of the text, or of a new one in its place.
+    // The ink box of the text, or of a new one in its place: the smallest rectangle that holds those of its lines.
     pub fn ink_box_of(&self, new: Option<&'a [u8]>) -> Rectangle
         requires { length (unwrap_or new self.now.text).now ≤ 4_096 }
         ensures value { result ≡ ink_box self.now.metrics.font (laid_out self.now (unwrap_or new.entry self.now.text).now) }
         ensures ends_fit { EndsFit result }
     {
-        self.lines_box(new, true)
+        let mut area = self.nowhere();
+        for line in self.lines_of(new) {
+            let shown = self.line_ink_box(&line);
+            area = area.join(shown);
+        }
+        area
     }
 
     // How wide a line of the text is at most: a character for each byte of the text.

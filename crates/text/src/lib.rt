@@ -1,21 +1,22 @@
 // A text: its lines, where each stands, and its drawing.
 #![tactic(auto)]
 
-ghost use Rattle.std.specs.Prelude.{◌≡◌, cond, length};
+ghost use Rattle.std.specs.Prelude.{◌≡◌, cond, Some, None, length};
 ghost use Rattle.geometry.specs.Painted.{Painted};
 ghost use Rattle.characters.specs.Utf8.{chars};
 ghost use Rattle.line.specs.Line.{top_edge, measured_width};
 ghost use Rattle.text.specs.Text.{aligned_start, line_height, line_layer, layer, line_next, next, line_replaced, replaced};
-ghost use Rattle.text.specs.Lines.{line_corner, is_below, is_left_out};
+ghost use Rattle.text.specs.Lines.{line_corner, is_below};
 ghost use Rattle.text.specs.Lent.{lent_font, lent_text, line_text, placed_line};
 
-use characters::lines::{line_end, without_return};
+use characters::lines::without_return;
 use geometry::{Frame, Point, Rectangle};
 use line::{Baseline, DrawnLine, Font, Line, Metrics};
-use texts::TextLine;
-pub use texts::{Text, TextLayout};
+pub use placed::TextLines;
+pub use texts::{Text, TextLayout, TextLine};
 
 mod boxes;
+mod placed;
 mod texts;
 
 // Where the lines of a text stand beside its x.
@@ -42,7 +43,7 @@ pub struct TextStyle {
 }
 
 // What drawing a text replies: the next position of its last line, and how many characters of its lines the font's mapping does not
-// list. Where no reply is asked for, it is the text's own position, and 0.
+// list.
 #[derive(Clone, Copy, PartialEq, Eq, Debug)]
 pub struct DrawnText {
     pub next: Point,
@@ -107,18 +108,10 @@ impl<'a> TextLayout<'a> {
             y: self.text_style.top_edge(self.metrics, line.position.y),
         }
     }
-
-    // Whether a line at y, and so each after it, is left out of a drawing: nothing of it is shown, and no reply is asked for.
-    #[tactic(auto, unfolding(crate::specs::Lines::is_left_out))]
-    fn is_left_out(&self, clip: Rectangle, y: u32, replies: bool) -> bool
-        ensures { result ≡ is_left_out clip self.now.metrics.font self.now.text_style y replies }
-    {
-        !replies && self.text_style.starts_below(self.metrics, y, clip)
-    }
 }
 
 impl<'a> Text<'a> {
-    // Draws one line of the text, with its return if it has one; gives the next x, and the count.
+    // Draws one line of the text, given with its return if it has one; gives the next x, and the count if the line counts.
     fn draw_line(&self, frame: &mut Frame, line: &TextLine, counts: bool) -> DrawnLine
         ensures painted { Painted frame.old (line_layer (lent_font self.now) (line_text self.now.layout line.now) (placed_line self.now.layout line.now)) frame.new }
         ensures next_value { result.next ≡ (line_next self.now.layout.metrics.font (line_text self.now.layout line.now) (placed_line self.now.layout line.now)).x }
@@ -134,41 +127,39 @@ impl<'a> Text<'a> {
         shown.draw_string(frame, layout.line_corner(line))
     }
 
-    // Draws the text; replies, if `replies`, the next position of its last line and how many characters are not listed. Else the first line
-    // below the clip ends it: the lines after that one stand no higher.
-    pub fn draw(&self, frame: &mut Frame, replies: bool) -> DrawnText
+    // Draws the text; gives the next position of its last line, and how many characters of its lines the font's mapping does not list.
+    pub fn draw(&self, frame: &mut Frame) -> DrawnText
         ensures painted { Painted frame.old (layer (lent_font self.now) (lent_text self.now.layout)) frame.new }
-        ensures next_value { result.next ≡ cond replies (next self.now.layout.metrics.font (lent_text self.now.layout)) self.now.layout.position }
-        ensures replaced_value { result.replaced ≡ cond replies (replaced (lent_font self.now) (lent_text self.now.layout)) 0 }
+        ensures next_value { result.next ≡ next self.now.layout.metrics.font (lent_text self.now.layout) }
+        ensures replaced_value { result.replaced ≡ replaced (lent_font self.now) (lent_text self.now.layout) }
     {
-        let text = self.layout.text;
-        let start = self.layout.position;
-        let height = self.layout.line_height();
-        let clip = frame.target.clip_area;
-        let mut from: usize = 0;
-        let mut y = start.y;
+        let mut next = self.layout.position;
         let mut replaced: u32 = 0;
-        // No `for`: each line is a slice that begins in mid-text, past the feed where the one before ended.
-        loop {
-            if self.layout.is_left_out(clip, y, replies) {
-                let next = start;
-                return DrawnText { next, replaced };
-            }
-            let end = line_end(text, from);
-            let position = Point { x: start.x, y };
-            let line = TextLine {
-                text: &text[from..end],
-                position,
+        for line in self.layout.lines() {
+            let drawn = self.draw_line(frame, &line, true);
+            next = Point {
+                x: drawn.next,
+                y: line.position.y,
             };
-            let drawn = self.draw_line(frame, &line, replies);
-            replaced = replaced + drawn.replaced.unwrap_or(0);
-            if text.len() <= end {
-                let last = Point { x: drawn.next, y };
-                let next = if replies { last } else { start };
-                return DrawnText { next, replaced };
+            replaced += drawn.replaced.unwrap_or(0);
+        }
+        DrawnText { next, replaced }
+    }
+
+    // Draws the text as far as it is shown: the first line below the clip ends it, since those after that one stand no higher.
+    pub fn paint(&self, frame: &mut Frame)
+        ensures { Painted frame.old (layer (lent_font self.now) (lent_text self.now.layout)) frame.new }
+    {
+        let layout = &self.layout;
+        for line in layout.lines() {
+            let clip = frame.target.clip_area;
+            if layout
+                .text_style
+                .starts_below(layout.metrics, line.position.y, clip)
+            {
+                return;
             }
-            from = end + 1;
-            y = y + height;
+            self.draw_line(frame, &line, false);
         }
     }
 }

@@ -8,7 +8,7 @@ use line::{Metrics, MonoTextStyle};
 use mapping::Mapping;
 
 // A text as it is measured: its bytes, which are lent, the numbers of its font, where it stands and how it is set.
-#[derive(Clone, Copy)]
+#[derive(Clone, Copy, PartialEq, Eq, Debug)]
 pub struct TextLayout<'a> {
     pub text: &'a [u8],
     pub metrics: Metrics,
@@ -18,8 +18,8 @@ pub struct TextLayout<'a> {
     ghost limits: { TextLimits (length text.now) position.x position.y text_style.line_height },
 }
 
-// A text as it is drawn, embedded-graphics' `Text`: the bytes of its font's atlas are lent with it, and its mapping.
-#[derive(Clone, Copy)]
+// A text as it is drawn, embedded-graphics' `Text`: the bytes of its font's atlas and its mapping are lent with it.
+#[derive(Clone, Copy, PartialEq, Eq, Debug)]
 pub struct Text<'a> {
     pub layout: TextLayout<'a>,
     pub atlas: &'a [u8],
@@ -27,7 +27,7 @@ pub struct Text<'a> {
 }
 
 // A line of a text: its bytes, with its return if it has one, and where it is set.
-#[derive(Clone, Copy)]
+#[derive(Clone, Copy, PartialEq, Eq, Debug)]
 pub struct TextLine<'a> {
     pub text: &'a [u8],
     pub position: Point,

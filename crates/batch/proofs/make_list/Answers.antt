@@ -9,6 +9,9 @@ use Rattle.batch.proofs.make_list.Goals as goal
 pub loop-entry-init : goal.loop-entry-init
 loop-entry-init c = rw (c.into_iter-entry-iterator.ensures.into_iter_gives, c.of-entry-items.ensures) (record { checked = c.requires; counted = omega arith; near = start_near _ refl; batch-as = start-batch _ _ refl; state-as = refl })
 
+pub loop-entry-preserved : goal.loop-entry-preserved
+loop-entry-preserved c = stands_next _ _ _ _ _ _ _ _ c.loop-entry.invariant _ _ c.in-Ok.ensures.value _ _ _ _ c.change.ensures.sheet_after c.repaint.ensures c.join-area.ensures c.in-Some.ensures.steps.step.0 c.in-Some.ensures.steps.whole c.in-Some.ensures.steps.step.1
+
 pub change-requires : goal.change-requires
 change-requires c = checked_accepted _ _ c.loop-entry.invariant.checked
 
@@ -23,9 +26,6 @@ join-area-requires-clause-ends_fit_2 c = near_ends _ (area_near _ _ _ c.loop-ent
 
 pub overflow_add-made : goal.overflow_add-made
 overflow_add-made c = let h = behind_shorter _ _ c.in-Some.ensures.steps.whole c.in-Some.ensures.steps.step.1 in omega (arith, c.loop-entry.invariant.counted)
-
-pub loop-entry-preserved : goal.loop-entry-preserved
-loop-entry-preserved c = stands_next _ _ _ _ _ _ _ _ c.loop-entry.invariant _ _ c.in-Ok.ensures.value _ _ _ _ c.change.ensures.sheet_after c.repaint.ensures c.join-area.ensures c.in-Some.ensures.steps.step.0 c.in-Some.ensures.steps.whole c.in-Some.ensures.steps.step.1
 
 pub returns-in-Err-clause-result_value : goal.returns-in-Err-clause-result_value
 returns-in-Err-clause-result_value c = stopped_batch _ _ _ c.loop-entry.invariant.checked c.in-Some.ensures.steps.whole _ c.in-Some.ensures.steps.step.0 _ c.in-Err.ensures.value _ _ _ c.loop-entry.invariant.batch-as

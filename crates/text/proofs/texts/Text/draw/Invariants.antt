@@ -1,13 +1,6 @@
--- `Text::draw` meets its contract: at each line the lines before it are drawn, and those from it on make up the rest, which is nothing below the
--- clip. Assumes nothing.
-use Prim.Native.Nat.{◌-◌}
-use lib.ListN.{length}
-use Rattle.text.specs.Lent.{lent_font, lent_text}
-use Rattle.text.proofs.Drawing.{LinesDrawn}
+-- At each line the lines before it are painted and counted, and those left make up the rest. Assumes nothing.
+use Rattle.text.proofs.Drawing.{LinesPainted, LinesCounted}
 use Rattle.text.proofs.texts.Text.draw.Given as goal
 
-abbrev pub invariant-loop-text : goal.invariant-loop-text
-invariant-loop-text l = LinesDrawn (lent_font l.self) (lent_text l.self.layout) l.replies l.initial.frame l.from l.y l.replaced l.frame
-
-abbrev pub decreases-loop-text : goal.decreases-loop-text
-decreases-loop-text l = length l.text - l.from
+abbrev pub invariant-loop-line : goal.invariant-loop-line
+invariant-loop-line l = record { painted : LinesPainted l.self l.initial.frame l.line-iterator l.frame; counted : LinesCounted l.self l.line-iterator l.next l.replaced }
