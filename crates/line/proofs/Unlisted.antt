@@ -25,10 +25,6 @@ use Rattle.line.specs.Limits.{FontLimits}
 
 -- ---- counts that are asked for, or not
 
-pub counted_few : (counts : Bool) (n : ℕ) → cond counts n 0 ≤ n
-counted_few true n = omega arith
-counted_few false n = omega arith
-
 -- what is told where it is asked for is told
 counted_if : (counts : Bool) (m n : ℕ) (told : Option ℕ) → (counts ≡ true → m ≡ n) → told ≡ then_some counts m → told ≡ cond counts (Some n) None
 counted_if true m n told h t = t ∙ ap Some (h refl)
