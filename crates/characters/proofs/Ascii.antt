@@ -1,14 +1,14 @@
 -- The leading bytes below 80 are a character each, and the rest tells the rest. Assumes nothing.
-use mathlib.Core.Path.{◌≡◌, refl, ◌∙◌}
+use mathlib.Core.Path.{◌≡◌, refl, sym, ◌∙◌, ap}
 use mathlib.Core.Bool.{Bool, true, false, cond, not}
-use mathlib.Core.List.{List, [], ◌∷◌}
-use Prim.Native.Nat.{ℕ, zero, suc, ◌+◌, ◌-◌, ◌*◌, ◌/◌, ◌<◌, ◌≤◌}
+use mathlib.Core.List.{List, [], ◌∷◌, ◌++◌}
+use Prim.Native.Nat.{ℕ, zero, suc, ◌+◌, ◌<◌, ◌≤◌}
 use native.Mathlib.Numerals.{add-one}
 use native.Mathlib.Omega.{arith}
 use native.Mathlib.Decide.{dec_lt}
 use lib.Dec.{ltb}
-use lib.ListN.{length, get_or, take, drop, drop_of_length-le, length-drop}
-use lib.Seq.{drop-cons, drop-drop, length-take-le}
+use lib.ListN.{length, get_or, drop, drop_of_length-le, length-drop, length-append}
+use lib.Seq.{drop-cons, drop-drop, drop-append_seam}
 use Rattle.std.specs.List.{position_or_len}
 use Rattle.std.proofs.lemmas.List.Recursion.{is_position_or_len}
 use borrow.Author.Tests.{lt-ltb, le-ltb}
@@ -47,29 +47,27 @@ unfolding ascii_length
 all_below [] h = refl
 all_below (b ∷ s) h = rw (lt-ltb b 0x80 (h 0 (omega arith)), all_below s (λ k l. h (suc k) (omega arith)))
 
-head-below : (n : ℕ) (s : List ℕ) → n ≤ length s → ascii_length (take n s) ≡ n → ascii_length s ≡ n + ascii_length (drop n s)
+below-append : (b s : List ℕ) → ascii_length b ≡ length b → ascii_length (b ++ s) ≡ length b + ascii_length s
 unfolding ascii_length
-head-below zero s h e = omega arith
-head-below (suc n) [] h e = absurd (omega arith)
-head-below (suc n) (b ∷ s) h e = go (ltb b 0x80) e (head-below n s (omega arith))
+below-append [] s e = omega arith
+below-append (c ∷ b) s e = go (ltb c 0x80) e (below-append b s)
   where
-    go : (t : Bool) → cond t (suc (ascii_length (take n s))) 0 ≡ suc n → (ascii_length (take n s) ≡ n → ascii_length s ≡ n + ascii_length (drop n s))
-        → cond t (suc (ascii_length s)) 0 ≡ suc n + ascii_length (drop n s)
+    go : (t : Bool) → cond t (suc (ascii_length b)) 0 ≡ suc (length b) → (ascii_length b ≡ length b → ascii_length (b ++ s) ≡ length b + ascii_length s)
+        → cond t (suc (ascii_length (b ++ s))) 0 ≡ suc (length b) + ascii_length s
     go true e f = omega (arith, f (omega arith))
     go false e f = absurd (omega arith)
 
 -- a block more
-pub block_below : (s : List ℕ) (k : ℕ) → k < length s / 16 → 16 * k + ascii_length (drop (16 * k) s) ≡ ascii_length s
-    → ascii_length (take (16 * k + 16 - 16 * k) (drop (16 * k) s)) ≡ length (take (16 * k + 16 - 16 * k) (drop (16 * k) s))
-    → 16 * (k + 1) + ascii_length (drop (16 * (k + 1)) s) ≡ ascii_length s
-block_below s k h i e =
-    let sixteen : 16 * k + 16 - 16 * k ≡ 16 = omega arith in
-    let l : length (drop (16 * k) s) ≡ length s - 16 * k = length-drop (16 * k) s in
-    let n : length (take 16 (drop (16 * k) s)) ≡ 16 = length-take-le 16 (drop (16 * k) s) (omega arith) in
-    let b = head-below 16 (drop (16 * k) s) (omega arith) (rw sixteen at e ∙ n) in
-    let m : 16 * (k + 1) ≡ 16 * k + 16 = omega arith in
-    let d : drop 16 (drop (16 * k) s) ≡ drop (16 * k + 16) s = drop-drop 16 (16 * k) s in
-    rw (m, ← d) (omega (arith, b))
+pub block_below : (s : List ℕ) (at n : ℕ) (b left rest : List ℕ) → at ≤ length s → at + ascii_length (drop at s) ≡ ascii_length s
+    → left ≡ drop at s → left ≡ b ++ rest → length b ≡ n → ascii_length b ≡ length b
+    → (rest ≡ drop (at + n) s) × (at + n ≤ length s) × (at + n + ascii_length (drop (at + n) s) ≡ ascii_length s)
+block_below s at n b left rest h i l p m e =
+    let w : drop at s ≡ b ++ rest = sym l ∙ p in
+    let r : rest ≡ drop (at + n) s = sym (rw (sym (drop-drop n at s), w, ← m) (drop-append_seam b rest)) in
+    let k : length (drop at s) ≡ length b + length rest = ap length w ∙ length-append b rest in
+    let j = length-drop at s in
+    let a : ascii_length (drop at s) ≡ length b + ascii_length rest = ap ascii_length w ∙ below-append b rest e in
+    (r, omega arith, rw (← r) (omega arith))
 
 -- ---- what they tell of the text
 

@@ -16,8 +16,8 @@ pub struct Cursor {
     pub at: usize,
 }
 
-// What stands at a position: a character and the position after it, a sequence that RFC 3629 does not allow, or the end. Three cases, of which an
-// option or a result would make two.
+// What stands at a position: a character and the position after it, a sequence that RFC 3629 does not allow, or the end. docs/DECISIONS.md, "Forms
+// that were asked for", names the step at a cursor and its `let else`; no Result, which would make the end of a text an error.
 #[derive(Clone, Copy, Debug, PartialEq, Eq)]
 pub enum Step {
     Character(u32, Cursor),
@@ -33,14 +33,16 @@ pub struct Characters<'a> {
     cursor: Cursor,
 }
 
-// The ones at the head of a lead byte: the length of its sequence, or 0 for a byte that stands alone.
+// The ones at the head of a lead byte: the length of its sequence, or 0 for a byte that stands alone. Leading zeros of the complement, as
+// docs/DECISIONS.md, "Forms that were asked for", names it.
 fn leading_ones(lead: u8) -> u32
     ensures { result ≡ leading_ones lead }
 {
     u8::leading_zeros(!lead)
 }
 
-fn is_continuation(b: u8) -> bool
+// Whether a byte continues a sequence.
+pub fn is_continuation(b: u8) -> bool
     ensures { result ≡ is_continuation b }
 {
     (0x80 <= b) & (b < 0xC0)
@@ -53,7 +55,8 @@ pub fn is_surrogate(v: u32) -> bool
     (0xD800 <= v) & (v < 0xE000)
 }
 
-// The character v of a sequence that ends at `next`, if it is no overlong form, no surrogate and not above 10FFFF.
+// The character v of a sequence that ends at `next`, if it is no overlong form, no surrogate and not above 10FFFF. By hand, since
+// RFC 3629's definition is here and a `char` could not be of what is to be tested.
 fn scalar(v: u32, least: u32, next: usize) -> Step
     ensures { result ≡ scalar v least next }
 {
@@ -63,6 +66,7 @@ fn scalar(v: u32, least: u32, next: usize) -> Step
     Step::IllFormed
 }
 
+// The sequences of two, three and four bytes: one function for each length, as `specs/Utf8.antt` has RFC 3629's three lines.
 fn two(a: u8, b: u8, next: usize) -> Step
     ensures { result ≡ two a b next }
 {
@@ -155,19 +159,18 @@ fn ascii_bytes(s: &[u8]) -> usize
 fn ascii_length(s: &[u8]) -> usize
     ensures { result ≡ ascii_length s.now }
 {
-    let blocks = s.len() / 16;
-    for k in 0..blocks {
-        let at = 16 * k;
-        if !is_ascii(&s[at..at + 16]) {
-            return at + ascii_bytes(&s[at..]);
+    let mut at = 0;
+    for block in s.chunks_exact(16) {
+        if !is_ascii(block) {
+            break;
         }
+        at += 16;
     }
-    let at = 16 * blocks;
     at + ascii_bytes(&s[at..])
 }
 
 // Whether a text is well-formed; the refusal if it is not.
-// A loop, since the iterator's end does not tell the text's end from what is ill-formed.
+// Cursors by `let else`, as docs/DECISIONS.md, "Forms that were asked for", names it.
 pub fn walk<E: Copy>(s: &[u8], refusal: E) -> Result<(), E>
     ensures { result ≡ cond (well_formed s.now) (Ok tt) (Err refusal) }
 {

@@ -12,27 +12,29 @@ pub struct Walker<'a> {
     pub at: usize,
 }
 
-// A walker from an offset of a line on.
-pub fn new<'a>(line: &'a [u8], at: usize) -> Walker<'a>
-    ensures { (result.line ≡ line.entry) × (result.at ≡ at) }
-{
-    Walker { line, at }
-}
+impl<'a> Walker<'a> {
+    // A walker from an offset of a line on.
+    pub fn new(line: &'a [u8], at: usize) -> Self
+        ensures { (result.line ≡ line.entry) × (result.at ≡ at) }
+    {
+        Walker { line, at }
+    }
 
-// What stands at the walker's offset.
-pub fn next<'a>(w: Walker<'a>) -> Step
-    ensures { result ≡ step_at w.entry.line.now w.entry.at }
-{
-    super::next(w.line, Cursor { at: w.at })
-}
+    // What stands at the walker's offset.
+    pub fn next(self) -> Step
+        ensures { result ≡ step_at self.entry.line.now self.entry.at }
+    {
+        super::next(self.line, Cursor { at: self.at })
+    }
 
-// The walker moved on: the same line, at a cursor.
-pub fn moved<'a>(w: Walker<'a>, c: Cursor) -> Walker<'a>
-    ensures { result ≡ moved_to w.entry c }
-{
-    Walker {
-        line: w.line,
-        at: c.at,
+    // The walker moved on: the same line, at a cursor.
+    pub fn moved(self, c: Cursor) -> Self
+        ensures { result ≡ moved_to self.entry c }
+    {
+        Walker {
+            line: self.line,
+            at: c.at,
+        }
     }
 }
 
@@ -40,5 +42,5 @@ pub fn moved<'a>(w: Walker<'a>, c: Cursor) -> Walker<'a>
 pub fn walk_from(line: &[u8], at: usize) -> Step
     ensures { result ≡ step_at line.now at }
 {
-    next(new(line, at))
+    Walker::new(line, at).next()
 }

@@ -5,7 +5,7 @@
 ghost use Rattle.std.specs.Prelude.{◌≡◌, length};
 ghost use Rattle.characters.specs.Utf8.{chars};
 
-use characters::{Step, walker};
+use characters::{Step, walker::Walker};
 use reading::read_full;
 
 // Writes what stands at an offset, and ends the line.
@@ -21,16 +21,16 @@ fn write_step(out: &impl Print, at: usize, step: Step) {
 fn walk_line(out: &impl Print, line: &[u8]) -> usize
     ensures { result ≡ length (chars line.now) }
 {
-    let mut w = walker::new(line, 0);
+    let mut w = Walker::new(line, 0);
     let mut n = 0;
     loop {
-        let step = walker::next(w);
+        let step = w.next();
         write_step(out, w.at, step);
         let Step::Character(_, after) = step else {
             return n;
         };
         n += 1;
-        w = walker::moved(w, after);
+        w = w.moved(after);
     }
 }
 
