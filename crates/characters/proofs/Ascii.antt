@@ -7,14 +7,15 @@ use native.Mathlib.Numerals.{add-one}
 use native.Mathlib.Omega.{arith}
 use native.Mathlib.Decide.{dec_lt}
 use lib.Dec.{ltb}
-use lib.ListN.{length, get_or, drop, drop_of_length-le, length-drop, length-append}
-use lib.Seq.{drop-cons, drop-drop, drop-append_seam}
+use lib.ListN.{length, get_or, drop, drop_of_length-le}
+use lib.Seq.{drop-cons}
 use Rattle.std.specs.List.{position_or_len}
 use Rattle.std.proofs.lemmas.List.Recursion.{is_position_or_len}
 use borrow.Author.Tests.{lt-ltb, le-ltb}
 use Rattle.characters.specs.declared.Step.TheVariants.{Character}
 use Rattle.characters.specs.Utf8.{leading_ones, sequence, step_at, chars_from, well_formed_from}
 use Rattle.characters.specs.Ascii.{ascii_length}
+use Rattle.characters.proofs.Chunks.{rest_is}
 use Rattle.characters.proofs.Walks.{walk_again, count_again}
 
 -- ---- the number of leading bytes
@@ -58,16 +59,11 @@ below-append (c ∷ b) s e = go (ltb c 0x80) e (below-append b s)
     go false e f = absurd (omega arith)
 
 -- a block more
-pub block_below : (s : List ℕ) (at n : ℕ) (b left rest : List ℕ) → at ≤ length s → at + ascii_length (drop at s) ≡ ascii_length s
-    → left ≡ drop at s → left ≡ b ++ rest → length b ≡ n → ascii_length b ≡ length b
-    → (rest ≡ drop (at + n) s) × (at + n ≤ length s) × (at + n + ascii_length (drop (at + n) s) ≡ ascii_length s)
-block_below s at n b left rest h i l p m e =
-    let w : drop at s ≡ b ++ rest = sym l ∙ p in
-    let r : rest ≡ drop (at + n) s = sym (rw (sym (drop-drop n at s), w, ← m) (drop-append_seam b rest)) in
-    let k : length (drop at s) ≡ length b + length rest = ap length w ∙ length-append b rest in
-    let j = length-drop at s in
-    let a : ascii_length (drop at s) ≡ length b + ascii_length rest = ap ascii_length w ∙ below-append b rest e in
-    (r, omega arith, rw (← r) (omega arith))
+pub block_below : (s : List ℕ) (at n : ℕ) (b left rest : List ℕ) → left ≡ drop at s → left ≡ b ++ rest → length b ≡ n → ascii_length b ≡ length b
+    → at + ascii_length (drop at s) ≡ ascii_length s → at + n + ascii_length (drop (at + n) s) ≡ ascii_length s
+block_below s at n b left rest l p m e i =
+    let a : ascii_length (drop at s) ≡ length b + ascii_length rest = ap ascii_length (sym l ∙ p) ∙ below-append b rest e in
+    rw (← rest_is s at n b left rest l p m) (omega arith)
 
 -- ---- what they tell of the text
 

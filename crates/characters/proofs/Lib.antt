@@ -1,4 +1,5 @@
 pub mod Ascii
+pub mod Chunks
 pub mod Drained
 pub mod Feeds
 pub mod Folds

@@ -56,7 +56,7 @@ pub fn is_surrogate(v: u32) -> bool
 }
 
 // The character v of a sequence that ends at `next`, if it is no overlong form, no surrogate and not above 10FFFF. By hand, since
-// RFC 3629's definition is here and a `char` could not be of what is to be tested.
+// the definition has three tests in RFC 3629's words, of which `char::from_u32` would be two.
 fn scalar(v: u32, least: u32, next: usize) -> Step
     ensures { result ≡ scalar v least next }
 {

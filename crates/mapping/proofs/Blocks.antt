@@ -1,7 +1,7 @@
 -- `skip` and the functions that it calls: a law for each fact that a turn of their loops needs. Assumes nothing.
 use mathlib.Core.Path.{◌≡◌, refl, sym, ◌∙◌, ap}
 use mathlib.Core.Bool.{Bool, true, false, not, cond, and-eq-true_iff}
-use mathlib.Core.List.{List, [], ◌∷◌}
+use mathlib.Core.List.{List, [], ◌∷◌, ◌++◌}
 use mathlib.Mathlib.Data.Bool.Basic.{dichotomy}
 use mathlib.Core.Logic.{⊎_elim}
 use Prim.Native.Nat.{ℕ, zero, suc, ◌+◌, ◌-◌, ◌*◌, ◌/◌, ◌%◌, ◌<◌, ◌≤◌, min, max}
@@ -18,6 +18,8 @@ use mir.Val.{Fits}
 use mir.Syntax.{w8, w64}
 use lib.Dec.{eqb}
 use Rattle.std.specs.Int.{from_bool}
+use Rattle.std.specs.Prelude.{Option, Some, None, unwrap_or}
+use Rattle.characters.proofs.Chunks.{chunk_is, chunk_within}
 use Rattle.characters.specs.Utf8.{is_continuation, fold_at, chars_from, well_formed_from}
 use Rattle.characters.proofs.Parts.{fold-after}
 use Rattle.mapping.specs.declared.search.Needle.{Needle}
@@ -146,8 +148,8 @@ module _ (s : List ℕ) where
           )
     ]
 
-    pub counted_fits : i < 64 → v ≡ min x y → Fits w8 (k + v)
-    counted_fits l u = omega (arith, leads_le s 0 (min i n), one_is t, one_le t)
+    pub counted_fits : i < length s → length s ≡ 64 → v ≡ min x y → Fits w8 (k + v)
+    counted_fits l m u = omega (arith, leads_le s 0 (min i n), one_is t, one_le t)
 
   pub bounded_more : (i most m b : ℕ) → ((j : ℕ) → j < i → before (get_or s j 0) ≤ most) → b ≡ get_or s i 0 → m ≡ max most ((b + 255) % 256)
       → (j : ℕ) → j < i + 1 → before (get_or s j 0) ≤ m
@@ -175,9 +177,9 @@ module _ (s : List ℕ) (at : ℕ) where
     counted = o.counted ∙ leads_take 128 (at + 128 - at) (omega arith);
   }
 
-  hit_part : (p : Needle) (r : ℕ) → IsNeedle p → OfHit (part s at 67) p 0 r → OfHit s p at r
+  hit_part : (p : Needle) (r : Option ℕ) → IsNeedle p → OfHit (part s at 67) p 0 r → OfHit s p at r
   hit_part p r i o = record {
-    most = o.most;
+    within = o.within;
     clear = λ j l.
         let c = o.clear j l in
         let e : 0 + j ≡ j = omega arith in
@@ -276,29 +278,34 @@ module _ (s : List ℕ) (limit : ℕ) where
   pub below_start : Below s limit (record { at = 0; count = 0 })
   below_start = record { within = omega arith; counted = leads-start s; low = λ q a. absurd (omega arith) }
 
-  module _ (k n : ℕ) (g : Below s limit (record { at = 128 * k; count = n })) where
+  module _ (at n : ℕ) (g : Below s limit (record { at = at; count = n })) where
     -- a block more
-    module _ (l : k < length s / 128) (b : Block) (h : OfBlock (part s (128 * k) 128) 0 b) (v : ℕ) (w : v ≡ b.leads) where
-      pub below_block : (m : ℕ) → m ≡ (limit + 255) % 256 → b.most < m → Below s limit (record { at = 128 * (k + 1); count = n + v })
+    module _ (size : ℕ) (x left rest : List ℕ) (d : left ≡ drop at s) (e : left ≡ x ++ rest) (f : length x ≡ size) (z : size ≡ 128) (b : Block) (h : OfBlock x 0 b) (v : ℕ) (w : v ≡ b.leads) where
+      block : OfBlock s at b
+      block = let m : at + 128 - at ≡ size = omega arith in block_part s at b (rw (m, ← chunk_is s at size x left rest d e f) h)
+
+      block-within : at + 128 ≤ length s
+      block-within = omega (arith, chunk_within s at size x left rest d e f (omega arith))
+
+      pub below_block : (m : ℕ) → m ≡ (limit + 255) % 256 → b.most < m → Below s limit (record { at = at + 128; count = n + v })
       unfolding before
       below_block m i c =
-          let o = block_part s (128 * k) b h in
-          let z : 128 * (k + 1) ≡ 128 * k + 128 = omega arith in
-          rw z (record {
-            within = omega arith;
-            counted = leads-on s (128 * k) n 128 v g.counted (w ∙ o.counted);
-            low = λ q x. elim (dec_lt q (128 * k)) [
+          let o = block in
+          record {
+            within = block-within;
+            counted = leads-on s at n 128 v g.counted (w ∙ o.counted);
+            low = λ q x. elim (dec_lt q at) [
               | yes z ↦ g.low q z
               | no z ↦ (
-                  let j : 128 * k + (q - 128 * k) ≡ q = omega arith in
-                  let t : before (get_or s q 0) ≤ b.most = rw j at (o.bounded (q - 128 * k) (omega arith)) in
+                  let j : at + (q - at) ≡ q = omega arith in
+                  let t : before (get_or s q 0) ≤ b.most = rw j at (o.bounded (q - at) (omega arith)) in
                   omega arith
                   )
             ];
-          })
+          }
 
       pub block_fits : Fits w64 (length s) → Fits w64 (n + v)
-      block_fits f = let o = block_part s (128 * k) b h in leads-fit s (128 * k) n 128 v g.counted (omega (arith, leads_le s (128 * k) 128, o.counted)) (omega arith) f
+      block_fits f = let o = block in leads-fit s at n 128 v g.counted (omega (arith, leads_le s at 128, o.counted)) block-within f
 
 -- ---- bytes with which nothing begins
 
@@ -338,7 +345,7 @@ module _ (s : List ℕ) (p : Needle) where
 
   -- 64 bytes after `base`, k times
   module _ (base k n : ℕ) (g : Passes s p (record { at = base + 64 * k; count = n })) where
-    module _ (r : ℕ) (e : r ≡ length s - base - 3) (l : k < r / 64) (left : ℕ) (i : IsNeedle p) (h : OfHit (part s (base + 64 * k) 67) p 0 left) where
+    module _ (r : ℕ) (e : r ≡ length s - base - 3) (l : k < r / 64) (o : Option ℕ) (i : IsNeedle p) (h : OfHit (part s (base + 64 * k) 67) p 0 o) where
       -- m bytes more
       module _ (m u v : ℕ) (w : u ≡ leads (part s (base + 64 * k) 64) 0 m) (x : v ≡ u) where
         counted-part : m ≤ 64 → u ≡ leads s (base + 64 * k) m
@@ -347,24 +354,25 @@ module _ (s : List ℕ) (p : Needle) where
         more-fits : m ≤ 64 → Fits w64 (length s) → Fits w64 (n + v)
         more-fits y f = passes-fits (base + 64 * k) n g m v (omega (arith, leads_le s (base + 64 * k) m, counted-part y)) (omega arith) f
 
-        more : m + left ≤ 64 → Passes s p (record { at = base + 64 * k + m; count = n + v })
+        more : m ≤ unwrap_or o 64 → Passes s p (record { at = base + 64 * k + m; count = n + v })
         more y =
-            let o = hit_part s (base + 64 * k) p left i h in
-            passes-more (base + 64 * k) n g m v (omega arith) (x ∙ counted-part (omega arith)) (λ j l. o.clear j (omega arith))
+            let q = hit_part s (base + 64 * k) p o i h in
+            let t = q.within in
+            passes-more (base + 64 * k) n g m v (omega arith) (x ∙ counted-part (omega arith)) (λ j l. q.clear j (omega arith))
 
-        pub upto_fits : m ≡ 64 - left → Fits w64 (length s) → Fits w64 (n + v)
-        upto_fits q = more-fits (omega arith)
+        pub upto_fits : o ≡ Some m → Fits w64 (length s) → Fits w64 (n + v)
+        upto_fits q = more-fits (rw q at h.within)
 
         pub through_fits : m ≡ 64 → Fits w64 (length s) → Fits w64 (n + v)
         through_fits q = more-fits (omega arith)
 
-        pub passes_hit : (z : ℕ) → z ≡ m → m ≡ 64 - left → Passes s p (record { at = base + 64 * k + z; count = n + v })
-        passes_hit z f q = let y = h.most in rw f (more (omega arith))
+        pub passes_hit : (z : ℕ) → z ≡ m → o ≡ Some m → Passes s p (record { at = base + 64 * k + z; count = n + v })
+        passes_hit z f q = rw f (more (rw q (omega arith)))
 
-        pub passes_through : m ≡ 64 → left ≤ 0 → Passes s p (record { at = base + 64 * (k + 1); count = n + v })
+        pub passes_through : m ≡ 64 → o ≡ None → Passes s p (record { at = base + 64 * (k + 1); count = n + v })
         passes_through q z =
             let e : base + 64 * (k + 1) ≡ base + 64 * k + m = omega arith in
-            rw e (more (omega arith))
+            rw e (more (rw z (omega arith)))
 
 -- what was passed over one after the other
 module _ (s : List ℕ) (p : Needle) (g r : Passed) (a : Passes s p g) (b : Skips (bytes_from s g.at) p r) where

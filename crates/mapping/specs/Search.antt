@@ -1,7 +1,7 @@
 -- What the search over characters that are listed singly cites: lead bytes, the bytes by which a character is looked for, and where it
 -- cannot begin. Assumes nothing.
 -- Serves contracts: nothing here has to be believed.
-use Rattle.std.specs.Prelude.{ℕ, zero, suc, ◌+◌, ◌/◌, ◌%◌, ◌<◌, ◌≤◌, ◌≡◌, List, Bool, true, false, not, cond, ◌&&◌, ◌||◌, length, get_or, drop, ltb, eqb, IfSome}
+use Rattle.std.specs.Prelude.{ℕ, zero, suc, ◌+◌, ◌/◌, ◌%◌, ◌<◌, ◌≤◌, ◌≡◌, List, Bool, true, false, not, cond, ◌&&◌, ◌||◌, length, get_or, drop, ltb, eqb, Option, unwrap_or, IfSome}
 use Rattle.characters.specs.Utf8.{is_continuation, well_formed}
 use Rattle.mapping.specs.declared.search.Needle.{Needle}
 use Rattle.mapping.specs.declared.search.Block.{Block}
@@ -49,10 +49,10 @@ pub record OfBlock (s : List ℕ) (at : ℕ) (b : Block) : Type 0 where
   pub bounded : (j : ℕ) → j < 128 → before (get_or s (at + j) 0) ≤ b.most
   pub counted : b.leads ≡ leads s at 128
 
--- where the last of 64 bytes counts as 1 and the first as 64: nothing begins at a byte that counts for more than r
-pub record OfHit (s : List ℕ) (p : Needle) (at r : ℕ) : Type 0 where
-  pub most : r ≤ 64
-  pub clear : (j : ℕ) → j + r < 64 → may_begin_at s p (at + j) ≡ false
+-- of 64 bytes nothing begins at one before r, or at any if r is none
+pub record OfHit (s : List ℕ) (p : Needle) (at : ℕ) (r : Option ℕ) : Type 0 where
+  pub within : unwrap_or r 64 ≤ 64
+  pub clear : (j : ℕ) → j < unwrap_or r 64 → may_begin_at s p (at + j) ≡ false
 
 -- every byte up to r is below `limit` and not 00, and r counts the lead bytes there
 pub record Below (s : List ℕ) (limit : ℕ) (r : Passed) : Type 0 where

@@ -43,7 +43,7 @@ pub struct Passed {
 fn is_lead(b: u8) -> bool
     ensures { result ≡ is_lead b }
 {
-    !((0x80 <= b) & (b < 0xC0))
+    !characters::is_continuation(b)
 }
 
 // The bytes by which a character is looked for.
@@ -144,8 +144,8 @@ fn leads_of(bytes: &[u8], n: u8) -> u8
     ensures { result ≡ leads bytes.now 0 n }
 {
     let mut count: u8 = 0;
-    for i in 0..64 {
-        let lead = u8::from(is_lead(bytes[i]));
+    for (i, b) in bytes.iter().enumerate() {
+        let lead = u8::from(is_lead(*b));
         count += lead.min(n.saturating_sub(i as u8));
     }
     count
@@ -155,20 +155,17 @@ fn leads_of(bytes: &[u8], n: u8) -> u8
 fn pass_blocks(bytes: &[u8], lead: u8) -> Passed
     ensures { Below bytes.now lead result }
 {
-    let blocks = bytes.len() / 128;
+    let mut at = 0;
     let mut count: u64 = 0;
-    for k in 0..blocks {
-        let at = 128 * k;
-        let block = read_block(&bytes[at..at + 128]);
+    for part in bytes.chunks_exact(128) {
+        let block = read_block(part);
         if lead.wrapping_sub(1) <= block.most {
-            return Passed { at, count };
+            break;
         }
+        at += 128;
         count += u64::from(block.leads);
     }
-    Passed {
-        at: 128 * blocks,
-        count,
-    }
+    Passed { at, count }
 }
 
 // How many bytes stand before the first lead byte.
@@ -206,9 +203,9 @@ fn begins(rest: &[u8], needle: Needle) -> bool
 }
 
 impl Sought {
-    // How many of 64 bytes are left from the first on with which a range or the character may begin. A sequence that begins in the 64 reaches
-    // up to 3 bytes on.
-    fn hit(self, bytes: &[u8]) -> u8
+    // Where in 64 bytes a range or the character may begin first. A sequence that begins in the 64 reaches up to 3 bytes on.
+    // By index, since of the four bytes that are looked at three stand as far on as the needle says.
+    fn hit(self, bytes: &[u8]) -> Option<u8>
         requires { length bytes.now ≡ 67 }
         ensures { OfHit bytes.now self.needle 0 result }
     {
@@ -216,17 +213,17 @@ impl Sought {
         let near = needle.near;
         let mid = needle.mid;
         let end = needle.end;
-        let mut found: u8 = 0;
+        let mut left: u8 = 0;
         for i in 0..64 {
             let a = bytes[i];
             let b = bytes[i + near];
             let c = bytes[i + mid];
             let d = bytes[i + end];
             if may_begin(needle, a, b, c, d) {
-                found = found.max(64 - i as u8);
+                left = left.max(64 - i as u8);
             }
         }
-        found
+        (0 < left).then_some(64 - left)
     }
 
     // Passes over bytes with which neither a range nor the character begins.
@@ -238,9 +235,7 @@ impl Sought {
         let mut count = blocks.count;
         for k in 0..hits {
             let at = blocks.at + 64 * k;
-            let left = self.hit(&bytes[at..at + 67]);
-            if 0 < left {
-                let n = 64 - left;
+            if let Some(n) = self.hit(&bytes[at..at + 67]) {
                 count += u64::from(leads_of(&bytes[at..at + 64], n));
                 return Passed {
                     at: at + usize::from(n),
@@ -260,11 +255,11 @@ impl Sought {
         ensures { Skips bytes.now self.needle result }
     {
         let mut count: u64 = 0;
-        for at in 0..bytes.len() {
+        for (at, b) in bytes.iter().enumerate() {
             if begins(&bytes[at..], self.needle) {
                 return Passed { at, count };
             }
-            count += u64::from(is_lead(bytes[at]));
+            count += u64::from(is_lead(*b));
         }
         Passed {
             at: bytes.len(),

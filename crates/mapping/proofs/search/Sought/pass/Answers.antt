@@ -8,8 +8,8 @@ loop-k-init c = search passes_lead
 pub overflow_add-count : goal.overflow_add-count
 overflow_add-count c = search upto_fits
 
-pub returns-then-left-gt0 : goal.returns-then-left-gt0
-returns-then-left-gt0 c = search passes_hit
+pub returns-in-Some : goal.returns-in-Some
+returns-in-Some c = search passes_hit
 
 pub overflow_add-count-in-loop-k : goal.overflow_add-count-in-loop-k
 overflow_add-count-in-loop-k c = search through_fits
