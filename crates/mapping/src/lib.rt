@@ -14,8 +14,9 @@ use search::Passed;
 
 pub mod search;
 
-// What stands at a position of a mapping: a range of characters and the position after it, a sequence that RFC 3629 does not
-// allow, or the end of the list: three cases, as a step over the bytes has.
+// What stands at a position of a mapping: a range of characters and the position after it, a sequence that RFC 3629 does not allow, or the end of
+// the list. Three cases as a step has, taken by `let else` in `check_mapping`, as docs/DECISIONS.md, "Forms that were asked for", names it; no Result,
+// which would make the end of a list an error.
 #[derive(Clone, Copy, Debug, PartialEq, Eq)]
 pub enum Entry {
     Range(u32, u32, Cursor),
@@ -113,8 +114,8 @@ fn entry_at(mapping: &[u8], c: Cursor) -> Entry
 }
 
 // The first position of a character in the list that the bytes spell, counted from `count`, or 65,536 for every position from there on. No
-// iterator of entries: between two of them bytes may be passed over in blocks. `well_formed` stays a clause here and below: the bytes are others
-// at each turn.
+// iterator of entries: between two of them bytes may be passed over in blocks. `well_formed` stays a clause here, in `resume` and in
+// `search::skip`: the bytes are others at each call.
 fn find(mapping: &[u8], count: u64, ch: u32) -> Option<u32>
     requires well { well_formed mapping.now ≡ true }
     requires count_bound { count ≤ 65_536 }
@@ -140,7 +141,8 @@ fn find(mapping: &[u8], count: u64, ch: u32) -> Option<u32>
     }
 }
 
-// What is passed over after the first entry for the characters of a text, if a block stands there: only then is the text looked at.
+// What is passed over after the first entry for the characters of a text, if a block stands there: only then is the text looked at. `SkipsBelow` is a
+// clause here, in `resume` and in `search::pass_below`, since it ties what was passed to the bytes that are lent beside it.
 fn passed_below(rest: &[u8], text: &[u8]) -> Option<PassedBelow>
     ensures { IfSome result (λ below. SkipsBelow rest.now below.lead below.passed) }
 {
@@ -213,7 +215,8 @@ impl<'a> Mapping<'a> {
         glyph_at(place, replacement)
     }
 
-    // The same, for a single character.
+    // The same, for a single character. Not by `glyph_with`: with a second caller of it a page takes 1.07 of its time (docs/PERFORMANCE.md), where none
+    // is to take 1.01.
     pub fn glyph_of(&self, replacement: u32, ch: u32) -> Glyph
         ensures { result ≡ glyph self.now.bytes.now replacement ch }
     {

@@ -46,7 +46,7 @@ fn is_lead(b: u8) -> bool
     !characters::is_continuation(b)
 }
 
-// The bytes by which a character is looked for.
+// The bytes by which a character is looked for. By hand, since a number that is no `char` is looked for too.
 fn needle_of(ch: u32) -> Needle
     ensures { result ≡ needle_of ch }
 {
@@ -178,7 +178,7 @@ fn before_lead(bytes: &[u8]) -> usize
         .unwrap_or(bytes.len())
 }
 
-// Passes over the same blocks, and on to the next lead byte.
+// Passes over the same blocks, and on to the next lead byte. `SkipsBelow`: see `passed_below` in lib.rt.
 pub fn pass_below(bytes: &[u8], lead: u8) -> Passed
     requires { 0xC0 ≤ lead }
     ensures { SkipsBelow bytes.now lead result }
@@ -226,7 +226,8 @@ impl Sought {
         (0 < left).then_some(64 - left)
     }
 
-    // Passes over bytes with which neither a range nor the character begins.
+    // Passes over bytes with which neither a range nor the character begins. By index, since the parts of 67 bytes overlap by 3:
+    // `windows(67).step_by(64)` would step through the windows between.
     fn pass(self, bytes: &[u8]) -> Passed
         ensures { Passes bytes.now self.needle result }
     {
@@ -276,7 +277,7 @@ fn is_near(rest: &[u8]) -> bool {
     *a == 0 || *b == 0 || *c == 0 || *d == 0
 }
 
-// Passes over singly listed characters other than ch.
+// Passes over singly listed characters other than ch. `well_formed`: see `find` in lib.rt.
 pub fn skip(rest: &[u8], ch: u32) -> Passed
     requires { well_formed rest.now ≡ true }
     ensures { Skips rest.now (needle_of ch) result }

@@ -13,8 +13,8 @@ use refusals::Refusal;
 
 // ---- what is found
 
-// The characters that a text spells, and where a sequence is not allowed, with its refusal as a new text. A loop over cursors, since the
-// iterator does not say where it stopped.
+// The characters that a text spells, and where a sequence is not allowed, with its refusal as a new text. A loop over cursors, as a step
+// gives them: where it stopped is written, which no other user of the iterator asks of it.
 fn show_text(out: &impl Print, bytes: &[u8]) {
     let mut c = Cursor { at: 0 };
     while let Step::Character(ch, after) = characters::next(bytes, c) {

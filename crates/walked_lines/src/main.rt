@@ -5,7 +5,8 @@
 ghost use Rattle.std.specs.Prelude.{◌≡◌, length};
 ghost use Rattle.characters.specs.Utf8.{chars};
 
-use characters::{Step, walker::Walker};
+use characters::Step;
+use characters::walker::Walker;
 use reading::read_full;
 
 // Writes what stands at an offset, and ends the line.
