@@ -21,7 +21,8 @@ use Rattle.line.proofs.Advances.{width_small, advance_width}
 use Rattle.line.proofs.Ink.{rows_low}
 use Rattle.text.specs.declared.texts.TextLayout.{TextLayout}
 use Rattle.text.specs.declared.texts.TextLine.{TextLine}
-use Rattle.text.specs.Text.{PlacedLine, laid_out, place_line, placed_lines, nowhere, measured_box, bounding_box, line_ink, ink_box}
+use Rattle.text.specs.Text.{PlacedLine, place_line, nowhere, measured_box, line_ink}
+use Rattle.text.specs.Boxes.{BoxesFit, GivesBoxes}
 use Rattle.text.specs.Lines.{line_corner}
 use Rattle.text.specs.Remaining.{lines_left, LineGiven}
 use Rattle.text.specs.declared.placed.TextLines.{TextLines}
@@ -72,35 +73,28 @@ module _ (t : TextLayout) (l : TextLine) (corner : Point) (d : corner ≡ line_c
       unfolding Line.measured_box Line.measured_width
       line_measured_ends p = rw p (omega (arith, wide, near, corner_near, measured_height_small m t.character_style t.metrics.limits))
 
--- ---- the boxes of lines joined one by one
+-- ---- the boxes of lines joined one by one: `gives` says what may be given for a line
 
-module _ (t : TextLayout) (box : PlacedLine → Rectangle) (whole : Rectangle) where
+module _ (t : TextLayout) (gives : TextLine → Rectangle → Type 0) (all : List PlacedLine) where
   -- what is joined at a line: the boxes of those before it
   pub record BoxesJoined (s : TextLines) (area : Rectangle) : Type 0 where
-    pub joined : joins area (map box (lines_left s)) ≡ whole
+    pub joined : (box : PlacedLine → Rectangle) → GivesBoxes t gives box → joins area (map box (lines_left s)) ≡ joins (nowhere (lent_text t)) (map box all)
     pub ends : EndsFit area
     pub same_layout : s.layout.now ≡ t
 
-  pub boxes_end : (s : TextLines) (area : Rectangle) → BoxesJoined s area → lines_left s ≡ [] → area ≡ whole
-  unfolding joins
-  boxes_end s area d e = rw e at d.joined
+  pub boxes_start : (s : TextLines) (area : Rectangle) → s.layout.now ≡ t → lines_left s ≡ all → area ≡ nowhere (lent_text t) → EndsFit area → BoxesJoined s area
+  boxes_start s area l e a n = record { joined = λ box g. rw (e, a); ends = n; same_layout = l }
 
-  pub boxes_step : (s : TextLines) (area : Rectangle) (l : TextLine) (later : TextLines) (shown next : Rectangle) → BoxesJoined s area → LineGiven s l later
-      → shown ≡ box (placed_line t l) → EndsFit shown → next ≡ join area shown → BoxesJoined later next
+  pub boxes_end : (s : TextLines) (area : Rectangle) → BoxesJoined s area → lines_left s ≡ [] → (box : PlacedLine → Rectangle) → GivesBoxes t gives box
+      → area ≡ joins (nowhere (lent_text t)) (map box all)
   unfolding joins
-  boxes_step s area l later shown next d g e n p = record {
-    joined = rw (p, e) (rw (g.first, d.same_layout) at d.joined);
-    ends = rw p (ends_fit_join area shown d.ends n);
+  boxes_end s area d e box g = rw e at d.joined box g
+
+  pub boxes_step : (s : TextLines) (area : Rectangle) (l : TextLine) (later : TextLines) (shown next : Rectangle) → BoxesFit gives → BoxesJoined s area → LineGiven s l later
+      → gives l shown → next ≡ join area shown → BoxesJoined later next
+  unfolding joins
+  boxes_step s area l later shown next fit d g r p = record {
+    joined = λ box is. rw (p, is l shown r) (rw (g.first, d.same_layout) at d.joined box is);
+    ends = rw p (ends_fit_join area shown d.ends (fit l shown r));
     same_layout = ap (λ (b : Bor TextLayout). b.now) g.same_layout ∙ d.same_layout;
   }
-
--- ---- the two boxes of a text
-
-module _ (t : TextLayout) (s : TextLines) (same : s.layout.now ≡ t) (text : List ℕ) (e : lines_left s ≡ placed_lines t.metrics.font (laid_out t text)) (area : Rectangle) (a : area ≡ nowhere (lent_text t)) (n : EndsFit area) where
-  pub measured_start : text ≡ t.text.now → BoxesJoined t (measured_box t.metrics.font (lent_text t)) (bounding_box t.metrics.font (lent_text t)) s area
-  unfolding bounding_box
-  measured_start q = record { joined = rw (e, a, q); ends = n; same_layout = same }
-
-  pub ink_start : BoxesJoined t (line_ink t.metrics.font (lent_text t)) (ink_box t.metrics.font (laid_out t text)) s area
-  unfolding ink_box line_ink
-  ink_start = record { joined = rw (e, a); ends = n; same_layout = same }

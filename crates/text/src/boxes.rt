@@ -1,12 +1,15 @@
 // The boxes of a text: of its lines, found between two line feeds of the stored text or of a new one, and joined; and whether the ink box can
 // meet a clip, told without its characters.
-ghost use Rattle.std.specs.Prelude.{◌≡◌, true, cond, unwrap_or, ℕ, ◌+◌, ◌*◌, ◌≤◌, eqb, length};
-ghost use Rattle.geometry.specs.Rectangle.{is_empty, intersection};
+ghost use Rattle.std.specs.Prelude.{◌≡◌, true, cond, unwrap_or, ℕ, ◌+◌, ◌*◌, ◌≤◌, eqb, map, length};
+ghost use Rattle.std.specs.Fn.{FnReturnsAt};
+ghost use Rattle.geometry.specs.declared.Rectangle.{Rectangle};
+ghost use Rattle.geometry.specs.Rectangle.{is_empty, joins, intersection};
 ghost use Rattle.geometry.specs.Canvas.{EndsFit};
 ghost use Rattle.characters.specs.Lines.{line_from};
 ghost use Rattle.line.specs.declared.MonoTextStyle.{MonoTextStyle};
 ghost use Rattle.line.specs.Line.{character_width, spacing};
-ghost use Rattle.text.specs.Text.{text_of, laid_out, line_height, nowhere, measured_box, bounding_box, line_ink, ink_box};
+ghost use Rattle.text.specs.Text.{PlacedLine, text_of, laid_out, line_height, placed_lines, nowhere, measured_box, bounding_box, line_ink, ink_box};
+ghost use Rattle.text.specs.Boxes.{BoxesFit, GivesBoxes};
 ghost use Rattle.text.specs.Lines.{feed_count, start_reach, LiesAt};
 ghost use Rattle.text.specs.Lent.{lent_text, placed_line};
 
@@ -87,16 +90,31 @@ impl<'a> TextLayout<'a> {
         }
     }
 
+    // The smallest rectangle that holds the boxes of the text's lines, or of those of a new text in its place, by what gives a line's box.
+    fn joined<F: Fn(&TextLine<'_>) -> Rectangle>(
+        &self,
+        new: Option<&'a [u8]>,
+        box_of: F,
+    ) -> Rectangle
+        requires length_limit { length (unwrap_or new self.now.text).now ≤ 4_096 }
+        requires callable { F.IsAlwaysCallable box_of }
+        requires ends_fit { BoxesFit (FnReturnsAt F.Fn box_of) }
+        ensures value { (box : PlacedLine → Rectangle) → GivesBoxes self.now (FnReturnsAt F.Fn box_of) box → result ≡ joins (nowhere (lent_text self.now)) (map box (placed_lines self.now.metrics.font (laid_out self.now (unwrap_or new.entry self.now.text).now))) }
+        ensures ends_fit { EndsFit result }
+    {
+        let mut area = self.nowhere();
+        for line in self.lines_of(new) {
+            let shown = box_of(&line);
+            area = area.join(shown);
+        }
+        area
+    }
+
     // The measured box of the text: the smallest rectangle that holds those of its lines.
     pub fn bounding_box(&self) -> Rectangle
         ensures { result ≡ bounding_box self.now.metrics.font (lent_text self.now) }
     {
-        let mut area = self.nowhere();
-        for line in self.lines() {
-            let shown = self.line_measured_box(&line);
-            area = area.join(shown);
-        }
-        area
+        self.joined(None, |line| self.line_measured_box(line))
     }
 
     // The ink box of the text.
@@ -113,12 +131,7 @@ impl<'a> TextLayout<'a> {
         ensures value { result ≡ ink_box self.now.metrics.font (laid_out self.now (unwrap_or new.entry self.now.text).now) }
         ensures ends_fit { EndsFit result }
     {
-        let mut area = self.nowhere();
-        for line in self.lines_of(new) {
-            let shown = self.line_ink_box(&line);
-            area = area.join(shown);
-        }
-        area
+        self.joined(new, |line| self.line_ink_box(line))
     }
 
     // How wide a line of the text is at most: a character for each byte of the text.
