@@ -40,6 +40,15 @@ pub struct ImageRaw<'a> {
     ghost cells_of: { CellsOf atlas (length bytes.now) cells },
 }
 
+impl Atlas {
+    // How many bytes a row of pixels takes.
+    fn row_bytes(self) -> usize
+        ensures { result ≡ row_bytes self }
+    {
+        (self.width as usize).div_ceil(8)
+    }
+}
+
 // How n bytes hold the glyphs of an atlas.
 fn cells_of(n: usize, atlas: Atlas) -> Cells
     ensures { CellsOf atlas n result }
@@ -47,7 +56,7 @@ fn cells_of(n: usize, atlas: Atlas) -> Cells
     let width = atlas.width as usize;
     let cell_width = atlas.cell_size.width as usize;
     let glyphs_per_row = width.checked_div(cell_width).unwrap_or(0);
-    let image_height = n.checked_div((width + 7) / 8).unwrap_or(0);
+    let image_height = n.checked_div(atlas.row_bytes()).unwrap_or(0);
     Cells {
         glyphs_per_row: glyphs_per_row as u32,
         image_height,
@@ -93,9 +102,9 @@ fn draw_pixels(row: &mut [u8], bits: u32, text: Option<u8>, background: Option<u
     requires { length row.old ≤ 8 }
     ensures { row.new ≡ map_indexed (bit_row bits text background) 0 row.old }
 {
-    for i in 0..row.len() {
+    for (i, pixel) in row.iter_mut().enumerate() {
         let on = (bits >> (7 - i)) % 2 == 1;
-        row[i] = blend(on, text, background, row[i]);
+        *pixel = blend(on, text, background, *pixel);
     }
 }
 
@@ -188,7 +197,7 @@ impl<'a> ImageRaw<'a> {
         ensures value { result ≡ first_row_not_run cell.top cell.height (lower_edge frame.old.target) }
     {
         let bytes = self.bytes;
-        let stride = (self.atlas.width as usize + 7) / 8;
+        let stride = self.atlas.row_bytes();
         let shown = frame.target.clip_area.intersection(cell);
         let column = from.0 + (shown.left - cell.left) as usize;
         let row = from.1 + (shown.top - cell.top) as usize;

@@ -10,8 +10,8 @@ use crate::FrameArea;
 fn fill_row(row: &mut [u8], grey: u8)
     ensures { row.new ≡ replicate (length row.old) grey }
 {
-    for i in 0..row.len() {
-        row[i] = grey;
+    for pixel in row.iter_mut() {
+        *pixel = grey;
     }
 }
 

@@ -23,7 +23,7 @@ pub on_frame-area-requires : goal.on_frame-area-requires
 on_frame-area-requires c = search shown_starts
 
 pub loop-k-init : goal.loop-k-init
-loop-k-init c = search (image-start, shown_in_frame, shown_sub_image)
+loop-k-init c = rw c.row_bytes-stride.ensures (search (image-start, shown_in_frame, shown_sub_image))
 
 pub overflow_mul-a : goal.overflow_mul-a
 overflow_mul-a c = search row_fits
@@ -44,7 +44,7 @@ pub overflow_add-result : goal.overflow_add-result
 overflow_add-result c = search row_shown_fits
 
 pub returns-clause-painted : goal.returns-clause-painted
-returns-clause-painted c = record { greys = search image_shown; same_greys = refl; same_target = refl }
+returns-clause-painted c = let drawn = rw c.row_bytes-stride.ensures at c.loop-k.invariant in record { greys = search image_shown; same_greys = refl; same_target = refl }
 
 pub returns-clause-value : goal.returns-clause-value
 returns-clause-value c = search row_shown
