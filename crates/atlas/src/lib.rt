@@ -63,7 +63,8 @@ fn cells_of(n: usize, atlas: Atlas) -> Cells
     }
 }
 
-// The pixels from x on of a row of the atlas, as bits 7 to 0 of a number. With `get` and `unwrap_or` for the second byte pages take 1.03 of the instructions.
+// The pixels from x on of a row of the atlas, as bits 7 to 0 of a number. With `get` and `unwrap_or` for the second byte pages take 1.03 of the
+// instructions, and they are not to be slower than by 1 %.
 #[tactic(auto, unfolding(crate::specs::Row::bits_at))]
 fn bits_at(line: &[u8], x: usize) -> u32
     requires { x < 8 * length line.now }
@@ -183,7 +184,8 @@ impl<'a> ImageRaw<'a> {
     }
 
     // Draws the image from a pixel on in a cell of which the frame shows some, row by row down to the cell's foot or the frame's; gives the
-    // first row that is not run. `SubImage` stays a clause: the pixels that are read are others at each call.
+    // first row that is not run. `SubImage` stays a clause: the pixels that are read are others at each call. Rows are counted, since of a slice whose
+    // parts an iterator lends for writing beside others a proof does not know what it holds at the end (`copy_bytes` of geometry).
     fn draw_sub_image(
         &self,
         frame: &mut Frame,

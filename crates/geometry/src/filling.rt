@@ -16,6 +16,7 @@ fn fill_row(row: &mut [u8], grey: u8)
 }
 
 // Copies bytes over as many. Byte by byte: the slice's own method calls memmove, and the library takes memset alone from its host.
+// By an index: with `to.iter_mut().zip(from)` the proof stops, since nothing ties what `to` holds at the end to what the pairs were given.
 pub fn copy_bytes(to: &mut [u8], from: &[u8])
     requires { length to.old ≡ length from.now }
     ensures { to.new ≡ from.now }
@@ -34,6 +35,7 @@ pub fn store_bytes(to: &mut [u8], at: usize, bytes: &[u8])
 }
 
 // Fills a rectangle of a frame fw wide: rows as wide as the frame are filled as one.
+// A row is a part that starts mid-frame, as docs/DECISIONS.md, "Forms that were asked for", names it.
 pub fn fill_area(greys: &mut [u8], fw: usize, area: FrameArea, grey: u8)
     requires { InFrame fw (length greys.old) area }
     ensures { greys.new ≡ paint fw (filled (on_frame area) (Some grey)) greys.old }

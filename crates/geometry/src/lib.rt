@@ -48,6 +48,7 @@ pub struct DrawTarget {
 }
 
 // A rectangle of the frame, its column and row counted from the frame's corner.
+// Not `Rectangle` over another number: columns of the frame are not to be taken for coordinates.
 #[derive(Clone, Copy, PartialEq, Eq, Debug)]
 pub struct FrameArea {
     pub left: usize,

@@ -63,6 +63,7 @@ pub enum Baseline {
 }
 
 // A line of text with what it is drawn in: its font and its colours; and whether the characters that its font does not list are counted.
+// The flag chooses once for a line in which columns characters are looked up: tested for each of them, the first page took 1.03 to 1.11 of its time.
 #[derive(Clone, Copy, Debug, PartialEq, Eq)]
 pub struct Line<'a> {
     pub text: &'a [u8],
@@ -184,6 +185,9 @@ impl Metrics {
         underline.draw(frame, second, corner, width);
     }
 
+    // `PlaceLimits` stays a clause, here and below: a caller proves it once, for its text and corner, and it goes down as it is. A type that held it
+    // would be a third line beside `Line` and `PreparedLine`, and whitespace has no line.
+
     // Draws whitespace of a width from `corner` on; gives the next x.
     pub fn draw_whitespace(
         &self,
@@ -210,7 +214,8 @@ impl Metrics {
 
 impl<'a> PreparedLine<'a> {
     // Draws a gap in the background's grey and the glyph of a character after it, unless they stand beside the columns; gives the count, with the
-    // character if it was looked up and is not listed. The count goes through it: added up by the caller, a page takes 1.02 of the instructions.
+    // character if it was looked up and is not listed. The count goes through it: added up by the caller, a page takes 1.02 of the instructions, and
+    // pages are not to be slower than by 1 %.
     fn draw_character(&self, frame: &mut Frame, gap: Rectangle, ch: u32, count: u32) -> u32
         requires prepared_for { PreparedFor frame.old.target.clip_area self.now }
         requires gap_height { gap.height ≡ character_height self.now.line.font.metrics.font }

@@ -30,6 +30,7 @@ impl MonoTextStyle {
 }
 
 // The rows of a part of a line, `height` of them from `offset` below its top edge on, as a column of pixels; none if the part does not count.
+// A flag and two numbers, as its definition has them: the characters' part has no offset, so that an option would be of numbers put together for it.
 fn rows_if(counts: bool, offset: u32, height: u32) -> Rectangle
     ensures { result ≡ rows_if counts offset height }
 {
@@ -57,7 +58,7 @@ impl MonoFont {
     }
 }
 
-// `LengthLimit` and `PlaceLimits` stay clauses: they are of the text and of the place that a call is given, and others at each.
+// `LengthLimit` stays a clause: a line's bytes are cut just before the call that measures them, and a type that held it would serve that call alone.
 impl Metrics {
     // How wide a line's characters stand, each with the spacing after it.
     fn characters_width(&self, text: &[u8]) -> u32

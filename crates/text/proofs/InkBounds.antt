@@ -1,17 +1,17 @@
 -- Where a text's ink box can stand, told from its place, its heights, its style and its bytes without its characters. Assumes nothing.
-use Prim.Native.Nat.{ℕ, suc, ◌+◌, ◌-◌, ◌*◌, ◌≤◌, ◌<◌}
+use Prim.Native.Nat.{ℕ, suc, ◌+◌, ◌-◌, ◌*◌, ◌≤◌}
 use native.Mathlib.Nat.{mul-le-mul, mul-le-mul_right}
 use native.Mathlib.Omega.{arith}
-use native.Mathlib.Numerals.{add-one}
 use mathlib.Core.Path.{◌≡◌, refl, ap, ◌∙◌}
 use mathlib.Core.Bool.{Bool, true, false, cond}
 use mathlib.Core.List.{List, [], ◌∷◌, map, Memᴰ}
-use lib.ListN.{length, drop, get_or, drop_of_length-le}
-use lib.Seq.{drop-cons}
+use lib.ListN.{length}
 use lib.Dec.{eqb, leb}
 use borrow.Author.Tests.{leb-true}
-use mir.Syntax.{w16, w32}
-use mir.Val.{Fits, bool_byte}
+use mir.Syntax.{w32}
+use mir.Val.{Fits}
+use Rattle.std.specs.Prelude.{count_by}
+use Rattle.std.proofs.lemmas.List.Sums.{sum_by-cons}
 use Rattle.geometry.specs.declared.Rectangle.{Rectangle}
 use Rattle.geometry.specs.Rectangle.{rectangle, is_empty, join, joins, intersection}
 use Rattle.geometry.proofs.Rectangles.{Within, join-within, joins-within, apart_within}
@@ -115,43 +115,16 @@ module _ (m : MonoFont) (t : Text) (n first span : ℕ) where
       lines-within ls (at + height) (join area (line_ink m t (place_line m t l at))) (λ k i. s k (Memᴰ.tail i)) (omega arith) (omega arith)
       (join-within around area (line_ink m t (place_line m t l at)) h (line-within l at (s l (Memᴰ.head refl)) p (omega arith)))
 
--- ---- `feed_count`: a turn at position i of the text
+-- ---- `feed_count`
 
 one_small : (b : Bool) → cond b 1 0 ≤ 1
 one_small true = omega arith
 one_small false = omega arith
 
-bool_number : (b : Bool) → bool_byte b ≡ cond b 1 0
-bool_number true = refl
-bool_number false = refl
-
--- the state of the loop: the feeds before i are counted
-pub record FeedsCounted (text : List ℕ) (i feeds : ℕ) : Type 0 where
-  pub counted : feeds + feed_count (drop i text) ≡ feed_count text
-  pub few : feeds ≤ i
-  pub near : i ≤ length text
-
-module _ (text : List ℕ) (i feeds : ℕ) (s : FeedsCounted text i feeds) where
-  module _ (one : ℕ) (h : i < length text) (e : one ≡ bool_byte (eqb (get_or text i 0) 0x0A)) where
-    feed_one : one ≡ cond (eqb (get_or text i 0) 0x0A) 1 0
-    feed_one = e ∙ bool_number (eqb (get_or text i 0) 0x0A)
-
-    pub feeds_fit : length text ≤ 4_096 → Fits w16 (feeds + one)
-    feeds_fit short = omega (arith, feed_one, one_small (eqb (get_or text i 0) 0x0A), s.few)
-
-    feed_here : feed_count (drop i text) ≡ one + feed_count (drop (i + 1) text)
-    unfolding feed_count
-    feed_here = rw (add-one i, drop-cons text i 0 h, feed_one)
-
-    pub feeds_more : FeedsCounted text (i + 1) (feeds + one)
-    feeds_more = record { counted = omega (arith, feed_here, s.counted); few = omega (arith, feed_one, one_small (eqb (get_or text i 0) 0x0A), s.few); near = omega arith }
-
-  none_left : length text ≤ i → feed_count (drop i text) ≡ 0
-  unfolding feed_count
-  none_left h = rw (drop_of_length-le text h)
-
-  pub feeds_all : length text ≤ i → feeds ≡ feed_count text
-  feeds_all h = omega (arith, s.counted, none_left h)
+pub feeds_counted : (t : List ℕ) → count_by (λ c. eqb c 0x0A) t ≡ feed_count t
+unfolding feed_count
+feeds_counted [] = refl
+feeds_counted (c ∷ cs) = sum_by-cons _ c cs ∙ ap (λ n. cond (eqb c 0x0A) 1 0 + n) (feeds_counted cs)
 
 -- ---- `most_width` and `lines_span`
 

@@ -19,6 +19,7 @@ use characters::lines::{line_length, without_return};
 use geometry::Rectangle;
 
 // The line that starts at `from`: a part of the new text, or of the stored one if none is new, by its bytes and by where they lie.
+// By an offset, as docs/DECISIONS.md, "Forms that were asked for", names it: the contract says where in its text the line lies.
 pub fn line_of<'a>(stored: &'a [u8], new: Option<&'a [u8]>, from: usize) -> &'a [u8]
     requires { from ≤ length (unwrap_or new stored).now }
     ensures result_value { result.now ≡ line_from (unwrap_or new.entry stored.entry).now from }
@@ -34,11 +35,7 @@ fn feed_count(text: &[u8]) -> u32
     requires { length text.now ≤ 4_096 }
     ensures { result ≡ feed_count text.now }
 {
-    let mut feeds: u16 = 0;
-    for &byte in text {
-        feeds += u16::from(byte == 0x0A);
-    }
-    u32::from(feeds)
+    text.iter().filter(|byte| **byte == 0x0A).count() as u32
 }
 
 impl Alignment {
@@ -56,6 +53,8 @@ impl Alignment {
 }
 
 impl<'a> TextLayout<'a> {
+    // `EndsFit` stays a clause, for the reason above `Rectangle::envelope` of geometry.
+
     // The measured box of one line of the text.
     fn line_measured_box(&self, line: &TextLine) -> Rectangle
         ensures value { result ≡ measured_box self.now.metrics.font (lent_text self.now) (placed_line self.now line.now) }

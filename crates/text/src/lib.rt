@@ -128,6 +128,7 @@ impl<'a> Text<'a> {
     }
 
     // Draws the text; gives the next position of its last line, and how many characters of its lines the font's mapping does not list.
+    // Each line is drawn to count, so that there always is a count and never the 0.
     pub fn draw(&self, frame: &mut Frame) -> DrawnText
         ensures painted { Painted frame.old (layer (lent_font self.now) (lent_text self.now.layout)) frame.new }
         ensures next_value { result.next ≡ next self.now.layout.metrics.font (lent_text self.now.layout) }

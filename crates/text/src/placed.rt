@@ -8,6 +8,7 @@ use super::texts::{TextLayout, TextLine};
 use geometry::Point;
 
 // The lines of a text, or of a new one in its place, from the one on that starts at `from`; none where that lies past the text.
+// It keeps an offset and not the rest: `line_of`, which cuts each line, says where in its text a line lies.
 #[derive(Clone, Copy, PartialEq, Eq, Debug)]
 pub struct TextLines<'a> {
     layout: &'a TextLayout<'a>,
@@ -32,7 +33,7 @@ impl<'a> TextLayout<'a> {
         self.lines_of(None)
     }
 
-    // The lines of the text, or of a new one in its place.
+    // The lines of the text, or of a new one in its place. That this is short stays a clause, here and of the boxes: it is lent anew at each call.
     pub fn lines_of<'b>(&'b self, new: Option<&'b [u8]>) -> TextLines<'b>
         requires { length (unwrap_or new self.now.text).now ≤ 4_096 }
         ensures layout_value { result.layout.now ≡ self.now }

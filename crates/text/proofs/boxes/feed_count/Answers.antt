@@ -1,12 +1,12 @@
--- `feed_count` meets its contract: at each byte the feeds before it are counted, and those from it on make up the rest. Assumes nothing.
-use Rattle.text.proofs.InkBounds.{feeds_fit, feeds_more, feeds_all}
+-- `feed_count` meets its contract: the bytes that are feeds are counted. Assumes nothing.
+use mathlib.Core.Path.{◌≡◌, ◌∙◌}
+use lib.Dec.{eqb}
+use Rattle.std.proofs.Common.{rules}
+use Rattle.std.specs.Prelude.{count_by}
+use Rattle.text.proofs.InkBounds.{feeds_counted}
 use Rattle.text.proofs.boxes.feed_count.Goals as goal
 
-pub overflow_add-feeds : goal.overflow_add-feeds
-overflow_add-feeds c = search feeds_fit
-
-pub loop-byte-preserved : goal.loop-byte-preserved
-loop-byte-preserved c = search feeds_more
-
 pub returns : goal.returns
-returns c = rw c.from.ensures (search feeds_all)
+returns c =
+    let counted : c.count.result ≡ count_by (λ b. eqb b 0x0A) c.args.text.now = search rules in
+    counted ∙ feeds_counted _
