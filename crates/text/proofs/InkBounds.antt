@@ -9,8 +9,8 @@ use lib.ListN.{length}
 use lib.Dec.{eqb, leb}
 use borrow.Author.Tests.{leb-true}
 use mir.Syntax.{w32}
-use mir.Val.{Fits}
-use Rattle.std.specs.Prelude.{count_by}
+use mir.Val.{Fits, bool_byte}
+use Rattle.std.specs.Prelude.{sum_by}
 use Rattle.std.proofs.lemmas.List.Sums.{sum_by-cons}
 use Rattle.geometry.specs.declared.Rectangle.{Rectangle}
 use Rattle.geometry.specs.Rectangle.{rectangle, is_empty, join, joins, intersection}
@@ -121,10 +121,14 @@ one_small : (b : Bool) → cond b 1 0 ≤ 1
 one_small true = omega arith
 one_small false = omega arith
 
-pub feeds_counted : (t : List ℕ) → count_by (λ c. eqb c 0x0A) t ≡ feed_count t
+byte_number : (b : Bool) → bool_byte b ≡ cond b 1 0
+byte_number true = refl
+byte_number false = refl
+
+pub feeds_summed : (t : List ℕ) → sum_by (λ c. bool_byte (eqb c 0x0A)) t ≡ feed_count t
 unfolding feed_count
-feeds_counted [] = refl
-feeds_counted (c ∷ cs) = sum_by-cons _ c cs ∙ ap (λ n. cond (eqb c 0x0A) 1 0 + n) (feeds_counted cs)
+feeds_summed [] = refl
+feeds_summed (c ∷ cs) = sum_by-cons _ c cs ∙ rw byte_number (ap (λ n. cond (eqb c 0x0A) 1 0 + n) (feeds_summed cs))
 
 -- ---- `most_width` and `lines_span`
 

@@ -35,7 +35,8 @@ fn feed_count(text: &[u8]) -> u32
     requires { length text.now ≤ 4_096 }
     ensures { result ≡ feed_count text.now }
 {
-    text.iter().filter(|byte| **byte == 0x0A).count() as u32
+    let feeds: u16 = text.iter().map(|byte| u16::from(*byte == 0x0A)).sum();
+    u32::from(feeds)
 }
 
 impl Alignment {

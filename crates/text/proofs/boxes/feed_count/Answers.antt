@@ -1,12 +1,13 @@
--- `feed_count` meets its contract: the bytes that are feeds are counted. Assumes nothing.
+-- `feed_count` meets its contract: a byte that is a feed adds one. Assumes nothing.
 use mathlib.Core.Path.{◌≡◌, ◌∙◌}
 use lib.Dec.{eqb}
+use mir.Val.{bool_byte}
 use Rattle.std.proofs.Common.{rules}
-use Rattle.std.specs.Prelude.{count_by}
-use Rattle.text.proofs.InkBounds.{feeds_counted}
+use Rattle.std.specs.Prelude.{sum_by}
+use Rattle.text.proofs.InkBounds.{feeds_summed}
 use Rattle.text.proofs.boxes.feed_count.Goals as goal
 
 pub returns : goal.returns
 returns c =
-    let counted : c.count.result ≡ count_by (λ b. eqb b 0x0A) c.args.text.now = search rules in
-    counted ∙ feeds_counted _
+    let summed : c.sum-feeds.result ≡ sum_by (λ b. bool_byte (eqb b 0x0A)) c.args.text.now = search rules in
+    c.from.ensures ∙ summed ∙ feeds_summed _
