@@ -8,17 +8,18 @@ use mathlib.Core.Bool.{Bool, true, false, cond, ◌&&◌, ◌||◌, true≢false
 use mathlib.Core.Logic.{◌⊎◌, inl, inr}
 use mathlib.Core.List.{List, [], ◌∷◌}
 use lib.ListN.{length, take, drop, get_or}
-use lib.Seq.{get_or-take, drop-cons, take-take, length-take-le}
+use lib.Seq.{get_or-take, get_or-drop, drop-cons, drop-drop, take-take, length-take-le}
 use lib.Dec.{leb, eqb}
 use lib.Pow.{pow-add, shr_lt}
 use borrow.Author.Tests.{leb-true, eqb-true, eq-eqb, ne_eqb}
 use Rattle.std.specs.Prelude.{Some, None}
-use Rattle.characters.specs.Lines.{line_length, without_return}
-use Rattle.characters.proofs.Feeds.{line_part, return_absent, return_dropped}
+use Rattle.characters.specs.Lines.{line_length, line_from, without_return}
+use Rattle.characters.proofs.Feeds.{return_absent, return_dropped}
 use Rattle.bdf_lines.specs.Words.{is_digit, is_hex, hex_value, are_hex, hex_from, is_row, row_bits, row_of}
+use Rattle.std.specs.List.{IsSplitAt}
 use Rattle.std.proofs.lemmas.Option.{same_Some}
-use Rattle.bdf_lines.specs.Forms.{line_at, IsFeedAt, IsRow}
-use Rattle.bdf_lines.proofs.Stands.{not_some, part_rest}
+use Rattle.bdf_lines.specs.Forms.{FeedBefore, IsRow}
+use Rattle.bdf_lines.proofs.Stands.{not_some}
 
 -- ---- the bits of a bitmap line
 
@@ -105,59 +106,47 @@ module _ (s : List ℕ) (i : ℕ) (h : i < length s) where
       let n : length (take (i + 1) s) - 1 ≡ i = omega (arith, length-take-le (i + 1) s (omega arith)) in
       sym (return_dropped (take (i + 1) s) (rw n (get_or-take (i + 1) s i 0 (omega arith) ∙ e))) ∙ rw n (take-take i (i + 1) s (omega arith))
 
--- ---- `feed_at`
+-- ---- `after_feed`
 
-module _ (text : List ℕ) (at : ℕ) where
-  pub feed_here : at < length text → get_or text at 0 ≡ 0x0A → IsFeedAt text at at
-  feed_here h e = record { inside = h; feed = e; place = inl refl }
+module _ (text rest : List ℕ) where
+  pub feed_here : text ≡ 0x0A ∷ rest → FeedBefore text rest
+  feed_here e = record { place = inl e }
 
-  pub feed_next : get_or text at 0 ≡ 0x0D → at + 1 < length text → get_or text (at + 1) 0 ≡ 0x0A → IsFeedAt text at (at + 1)
-  feed_next r h e = record { inside = h; feed = e; place = inr (refl, r) }
+  pub feed_next : text ≡ 0x0D ∷ 0x0A ∷ rest → FeedBefore text rest
+  feed_next e = record { place = inr e }
 
--- ---- `row_at`
+-- ---- `row`: the digits, and what follows them
 
-module _ (text : List ℕ) (width : ℕ) where
-  abbrev to : ℕ
-  to = 2 * ((width + 7) / 8)
+module _ (text digits behind rest : List ℕ) (width bits n : ℕ) (s : IsSplitAt text n digits behind) (g : FeedBefore behind rest) (q : row_of width digits ≡ Some bits) where
+  is-row : is_row width digits ≡ true
+  unfolding row_of
+  is-row = go (is_row width digits) q
+    where
+      go : (u : Bool) → cond u (Some (row_bits width digits)) None ≡ Some bits → u ≡ true
+      go true e = refl
+      go false e = absurd (not_some bits e)
 
-  module _ (bits end : ℕ) (more : to < length text) (feed : IsFeedAt text to end) (q : row_of width (take to text) ≡ Some bits) where
-    digits : List ℕ
-    digits = take to text
+  are-hex : are_hex digits ≡ true
+  unfolding is_row
+  are-hex = ((and-eq-true_iff (eqb (length digits) (2 * ((width + 7) / 8))) (are_hex digits)).0 is-row).1
 
-    is-row : is_row width digits ≡ true
-    unfolding digits row_of
-    is-row = go (is_row width digits) q
-      where
-        go : (u : Bool) → cond u (Some (row_bits width digits)) None ≡ Some bits → u ≡ true
-        go true e = refl
-        go false e = absurd (not_some bits e)
+  goes-on : line_length text ≡ n + line_length behind
+  goes-on = rw s.2 (hex_line n text (rw s.1 at are-hex) s.0)
 
-    are-hex : are_hex digits ≡ true
-    unfolding is_row
-    are-hex = ((and-eq-true_iff (eqb (length digits) (2 * ((width + 7) / 8))) (are_hex digits)).0 is-row).1
+  -- what follows a part of the text that is known
+  follows : (k : ℕ) → drop k behind ≡ drop (n + k) text
+  follows k = rw s.2 (drop-drop k n text)
 
-    line-goes-on : line_length text ≡ to + line_length (drop to text)
-    unfolding digits
-    line-goes-on = hex_line to text are-hex (omega arith)
+  pub row_found : IsRow text width bits rest
+  unfolding line_from line_length
+  row_found = go g.place
+    where
+      made : (k : ℕ) → line_length text ≡ n + k → n + k < length text → rest ≡ drop (k + 1) behind → without_return (take (n + k) text) ≡ digits → IsRow text width bits rest
+      made k e h d w = record {
+        line = record { feed = omega (arith, e); after = let j : line_length text + 1 ≡ n + (k + 1) = omega (arith, e) in rw (j, ← follows (k + 1)) d };
+        bitmap = rw (e, w) q;
+      }
 
-    line-ends : end ≡ line_length text
-    line-ends = go feed.place
-      where
-        go : (end ≡ to) ⊎ ((end ≡ to + 1) × (get_or text to 0 ≡ 0x0D)) → end ≡ line_length text
-        go (inl e) = omega (arith, line-goes-on, feed-line text to (omega arith) (rw e at feed.feed))
-        go (inr (e, r)) = omega (arith, line-goes-on, return-line text to (omega arith) r, feed-line text (to + 1) (rw e at feed.inside) (rw e at feed.feed))
-
-    line-digits : line_at text 0 ≡ digits
-    unfolding digits
-    line-digits = ap without_return (sym (line_part text 0 end (omega (arith, line-ends)))) ∙ go feed.place
-      where
-        go : (end ≡ to) ⊎ ((end ≡ to + 1) × (get_or text to 0 ≡ 0x0D)) → without_return (take (end - 0) text) ≡ digits
-        go (inl e) = let n : end - 0 ≡ to = omega arith in rw n (sym (return_absent digits (hex_no_return digits are-hex (length digits - 1))))
-        go (inr (e, r)) = let n : end - 0 ≡ to + 1 = omega arith in rw n (return-cut text to more r)
-
-    pub row_found : (rest : List ℕ) → rest ≡ take (length text - (end + 1)) (drop (end + 1) text) → IsRow text width bits rest
-    unfolding digits
-    row_found rest d = record {
-      line = record { feed = omega (arith, line-ends, feed.inside); after = d ∙ part_rest text (end + 1) ∙ ap (λ (n : ℕ). drop (n + 1) text) line-ends };
-      bitmap = ap (row_of width) line-digits ∙ q;
-    }
+      go : (behind ≡ 0x0A ∷ rest) ⊎ (behind ≡ 0x0D ∷ 0x0A ∷ rest) → IsRow text width bits rest
+      go (inl e) = made 0 (rw e at goes-on) (omega (arith, ap length e, s.4)) (rw e) (let z : n + 0 ≡ n = omega arith in rw (z, ← s.1) (sym (return_absent digits (hex_no_return digits are-hex (length digits - 1)))))
+      go (inr e) = made 1 (rw e at goes-on) (omega (arith, ap length e, s.4)) (rw e) (return-cut text n (omega (arith, ap length e, s.4)) (let z : n ≡ n + 0 = omega arith in ap (λ (k : ℕ). get_or text k 0) z ∙ sym (get_or-drop n text 0 0) ∙ rw (← s.2, e)) ∙ sym s.1)

@@ -13,7 +13,7 @@ use lib.Seq.{drop-cons, take_all}
 use lib.Dec.{eqb, leb, ltb}
 use lib.Bits.{bit_or, or_add_and, and_le_l, and_le_r, or_lt, or_shifted}
 use borrow.Author.Tests.{eqb-true, leb-true, leb-false, lt-leb, eq-eqb, ne_eqb, not-true, not-false}
-use Rattle.std.specs.Int.{from_bool}
+use Rattle.std.specs.Int.{from_bool, div_ceil}
 use Rattle.std.specs.Prelude.{Option, Some, None}
 use Rattle.bdf_lines.specs.declared.values.Number.{Number}
 use Rattle.bdf_lines.specs.Words.{is_digit, are_digits, decimal_from, most, signed, digits_of, number_of, is_hex, hex_value, are_hex, hex_from, is_row, row_bits, row_of}
@@ -269,21 +269,24 @@ module _ (s : List ℕ) {r : Option ℕ} (e : r ≡ hex_of s) where
     unfolding hex_of
     hex-of-value = let p : Some (hex_from 0 s) ≡ Some v = rw hex_of_bits at (sym e ∙ q) in cc
 
--- ---- `row_of`: a bitmap line
+-- ---- `row_of`: a bitmap line of n bytes
 
-module _ (width : ℕ) (line : List ℕ) where
-  pub row_length : (length line ≡ 2 * ((width + 7) / 8) → ⊥) → None ≡ row_of width line
+module _ (width : ℕ) (line : List ℕ) (n : ℕ) (c : n ≡ div_ceil width 8) where
+  bytes_are : n ≡ (width + 7) / 8
+  bytes_are = c ∙ omega arith
+
+  pub row_length : (length line ≡ 2 * n → ⊥) → None ≡ row_of width line
   unfolding row_of is_row
-  row_length n = rw (ne_eqb (length line) (2 * ((width + 7) / 8)) n)
+  row_length f = rw (← bytes_are, ne_eqb (length line) (2 * n) f)
 
-  module _ (h : length line ≡ 2 * ((width + 7) / 8)) (r : Option ℕ) (e : r ≡ hex_of line) where
+  module _ (h : length line ≡ 2 * n) (r : Option ℕ) (e : r ≡ hex_of line) where
     row_is : row_of width line ≡ cond (are_hex line) (Some (row_bits width line)) None
     unfolding row_of is_row
-    row_is = rw (eq-eqb (length line) (2 * ((width + 7) / 8)) h)
+    row_is = rw (← bytes_are, eq-eqb (length line) (2 * n) h)
 
     pub row_wrong : r ≡ None → None ≡ row_of width line
     row_wrong q = rw (row_is, hex_of_wrong line e q)
 
-    pub row_bits_lem : (v : ℕ) → r ≡ Some v → Some (v / 2 ^ (8 * ((width + 7) / 8) - width)) ≡ row_of width line
+    pub row_bits_lem : (v : ℕ) → r ≡ Some v → Some (v / 2 ^ (8 * n - width)) ≡ row_of width line
     unfolding row_bits
-    row_bits_lem v q = rw (row_is, hex_of_bits line e q, hex-of-value line e q)
+    row_bits_lem v q = rw (row_is, hex_of_bits line e q, hex-of-value line e q, bytes_are)

@@ -5,7 +5,7 @@ use mathlib.Core.Path.{◌≡◌, refl, sym, ap, ◌∙◌}
 use mathlib.Core.Bool.{Bool, true, false, not, cond, ◌&&◌, ◌||◌, true≢false, and-eq-true_iff}
 use mathlib.Core.List.{List, [], ◌∷◌, ◌++◌, map, append-nil, append_assoc}
 use lib.ListN.{length, take, drop, get_or, length-drop, length-append}
-use lib.Seq.{drop-cons, drop-drop, drop-append-add}
+use lib.Seq.{drop-cons, drop-drop, drop-append-add, take_all}
 use lib.Dec.{eqb, ltb}
 use borrow.Author.Tests.{eqb-true, eq-eqb, ne_eqb, ltb-true, lt-ltb}
 use denote.Ref.{Bor}
@@ -20,10 +20,10 @@ use Rattle.bdf_lines.specs.declared.values.Number.{Number}
 use Rattle.bdf_lines.specs.Words.{four, is_blank, begins_word, words, same, is_alone, is_named, is_digit, are_digits, digits_of, number_of, are_numbers, has_numbers, four_numbers, four_of, encoding_of}
 use Rattle.bdf_lines.specs.Keywords.{start_char, swidth, dwidth, bitmap, end_char, encoding, bbx}
 use Rattle.bdf_lines.specs.Forms.{line_at, LineBefore, UsualLine, UsualEncoding, UsualBbx}
-use Rattle.bdf_lines.specs.Stands.{NumberAt, is_clear, is_plain, Spells, SpellsNumbers, TwoAfter}
+use Rattle.bdf_lines.specs.Stands.{IsNumber, is_clear, is_plain, Spells, SpellsNumbers, TwoAfter}
 use Rattle.bdf_lines.proofs.Rest.{split}
 use Rattle.bdf_lines.proofs.Numbers.{digit_low}
-use Rattle.bdf_lines.proofs.Stands.{not_some, part_rest}
+use Rattle.bdf_lines.proofs.Stands.{not_some}
 
 -- ---- bytes of words
 
@@ -173,28 +173,24 @@ spells_more text behind rest b w ws p e s = record {
 
 -- ---- numbers one after another
 
-module _ (file : List ℕ) (at to : ℕ) (n : Number) where
-  numbers-last : NumberAt file at 0x0A n to → SpellsNumbers (drop at file) (n ∷ []) (drop to file)
+module _ (text behind : List ℕ) (n : Number) where
+  numbers-last : IsNumber text 0x0A n behind → SpellsNumbers text (n ∷ []) behind
   unfolding number_of
   numbers-last i = go i.word i.number i.here
     where
-      go : (w : List ℕ) → number_of w ≡ Some n → drop at file ≡ w ++ (0x0A ∷ drop to file) → SpellsNumbers (drop at file) (n ∷ []) (drop to file)
+      go : (w : List ℕ) → number_of w ≡ Some n → text ≡ w ++ (0x0A ∷ behind) → SpellsNumbers text (n ∷ []) behind
       go [] e h = absurd (not_some n e)
-      go (b ∷ w) e h = record {
-        ws = (b ∷ w) ∷ [];
-        spells = spells_last (drop at file) (drop to file) b w (number_plain (b ∷ w) n e) h;
-        numbers = ap (λ (r : Option Number). r ∷ []) e;
-      }
+      go (b ∷ w) e h = record { ws = (b ∷ w) ∷ []; spells = spells_last text behind b w (number_plain (b ∷ w) n e) h; numbers = ap (λ (r : Option Number). r ∷ []) e }
 
-  numbers_more : (ns : List Number) (rest : List ℕ) → NumberAt file at 0x20 n to → SpellsNumbers (drop to file) ns rest → SpellsNumbers (drop at file) (n ∷ ns) rest
+  numbers_more : (ns : List Number) (rest : List ℕ) → IsNumber text 0x20 n behind → SpellsNumbers behind ns rest → SpellsNumbers text (n ∷ ns) rest
   unfolding number_of
   numbers_more ns rest i s = go i.word i.number i.here
     where
-      go : (w : List ℕ) → number_of w ≡ Some n → drop at file ≡ w ++ (0x20 ∷ drop to file) → SpellsNumbers (drop at file) (n ∷ ns) rest
+      go : (w : List ℕ) → number_of w ≡ Some n → text ≡ w ++ (0x20 ∷ behind) → SpellsNumbers text (n ∷ ns) rest
       go [] e h = absurd (not_some n e)
       go (b ∷ w) e h = record {
         ws = (b ∷ w) ∷ s.ws;
-        spells = spells_more (drop at file) (drop to file) rest b w s.ws (number_plain (b ∷ w) n e) h s.spells;
+        spells = spells_more text behind rest b w s.ws (number_plain (b ∷ w) n e) h s.spells;
         numbers = ap (λ (r : Option Number). r ∷ map number_of s.ws) e ∙ ap (λ (rs : List (Option Number)). Some n ∷ rs) s.numbers;
       }
 
@@ -309,20 +305,19 @@ module _ (text line : List ℕ) (n : ℕ) (e : n ≡ line_length text) where
       feed = omega (arith, ap length d, length-drop n text);
       after =
           let ahead : drop 1 behind ≡ drop (line_length text + 1) text = rw (d, e) (drop-drop 1 (line_length text) text) in
-          f ∙ part_rest behind 1 ∙ ahead;
+          f ∙ take_all (length behind - 1) (drop 1 behind) (omega (arith, length-drop 1 behind)) ∙ ahead;
     }
 
 -- ---- `two_numbers`, `scalable_width`, `device_width`
 
 module _ (text : List ℕ) where
-  pub two_after : (name behind rest : List ℕ) (second end : ℕ) (m n : Number) → text ≡ name ++ behind → NumberAt behind 0 0x20 m second → NumberAt behind second 0x0A n end
-      → rest ≡ take (length behind - end) (drop end behind) → TwoAfter text name rest
-  two_after name behind rest second end m n e f g d = record {
+  pub two_after : (name behind rest last : List ℕ) (m n : Number) → text ≡ name ++ behind → IsNumber behind 0x20 m last → IsNumber last 0x0A n rest → TwoAfter text name rest
+  two_after name behind rest last m n e f g = record {
     first = m;
     second = n;
     behind = behind;
     here = e;
-    are = rw (d, part_rest behind end) (numbers_more behind 0 second m (n ∷ []) (drop end behind) f (numbers-last behind second end n g));
+    are = numbers_more behind last m (n ∷ []) rest f (numbers-last last rest n g);
   }
 
   module _ (rest : List ℕ) where
@@ -359,26 +354,23 @@ module _ (text : List ℕ) where
     unfolding is_plain
     end_found = alone-found _ _ refl
 
-    -- ---- `encoding_at`
+    -- ---- `encoding`
 
-    pub encoding_found : (behind : List ℕ) (end : ℕ) (n : Number) → text ≡ (encoding ++ (0x20 ∷ [])) ++ behind → NumberAt behind 0 0x0A n end
-        → rest ≡ take (length behind - end) (drop end behind) → UsualEncoding text n rest
+    pub encoding_found : (behind : List ℕ) (n : Number) → text ≡ (encoding ++ (0x20 ∷ [])) ++ behind → IsNumber behind 0x0A n rest → UsualEncoding text n rest
     unfolding is_plain
-    encoding_found behind end n e f d =
-        let s : SpellsNumbers behind (n ∷ []) rest = rw (d, part_rest behind end) (numbers-last behind 0 end n f) in
+    encoding_found behind n e f =
+        let s = numbers-last behind rest n f in
         let t = after_keyword text behind rest _ _ s.ws refl e s.spells in
         record { line = spells-line text rest (encoding ∷ s.ws) t; encoding = rw (spells-words text rest (encoding ∷ s.ws) t) (one_is encoding s.ws n s.numbers) }
 
-    -- ---- `bbx_at`
+    -- ---- `bbx`
 
-    pub bbx_found : (l : List ℕ) (second third fourth end : ℕ) (a b c d : Number) → text ≡ (bbx ++ (0x20 ∷ [])) ++ l → NumberAt l 0 0x20 a second → NumberAt l second 0x20 b third
-        → NumberAt l third 0x20 c fourth → NumberAt l fourth 0x0A d end → rest ≡ take (length l - end) (drop end l) → UsualBbx text (four a b c d) rest
+    pub bbx_found : (l₁ l₂ l₃ l₄ : List ℕ) (a b c d : Number) → text ≡ (bbx ++ (0x20 ∷ [])) ++ l₁ → IsNumber l₁ 0x20 a l₂ → IsNumber l₂ 0x20 b l₃ → IsNumber l₃ 0x20 c l₄ → IsNumber l₄ 0x0A d rest
+        → UsualBbx text (four a b c d) rest
     unfolding is_plain four_of
-    bbx_found l second third fourth end a b c d e n₁ n₂ n₃ n₄ r =
-        let to = drop end l in
-        let s : SpellsNumbers l (a ∷ b ∷ c ∷ d ∷ []) rest = rw (r, part_rest l end)
-        (numbers_more l 0 second a _ to n₁ (numbers_more l second third b _ to n₂ (numbers_more l third fourth c _ to n₃ (numbers-last l fourth end d n₄)))) in
-        let t = after_keyword text l rest _ _ s.ws refl e s.spells in
+    bbx_found l₁ l₂ l₃ l₄ a b c d e n₁ n₂ n₃ n₄ =
+        let s = numbers_more l₁ l₂ a _ rest n₁ (numbers_more l₂ l₃ b _ rest n₂ (numbers_more l₃ l₄ c _ rest n₃ (numbers-last l₄ rest d n₄))) in
+        let t = after_keyword text l₁ rest _ _ s.ws refl e s.spells in
         record { line = spells-line text rest (bbx ∷ s.ws) t; bbx = rw (spells-words text rest (bbx ∷ s.ws) t, same_word bbx) (four_are s.ws a b c d s.numbers) }
 
   -- ---- `start_char`

@@ -1,6 +1,6 @@
 -- The usual forms of a glyph's lines, read at the head of a text: one blank between words, and a feed at the end; and a bitmap line. Assumes nothing.
 -- Serves contracts: nothing here has to be believed.
-use Rattle.std.specs.Prelude.{ℕ, ◌+◌, ◌<◌, ◌≡◌, Bool, true, List, ◌⊎◌, Some, length, drop, get_or}
+use Rattle.std.specs.Prelude.{ℕ, ◌+◌, ◌<◌, ◌≡◌, Bool, true, List, ◌∷◌, ◌⊎◌, Some, length, drop}
 use Rattle.characters.specs.Lines.{without_return, line_from, line_length}
 use Rattle.bdf_lines.specs.declared.values.Number.{Number}
 use Rattle.bdf_lines.specs.declared.values.Four.{Four}
@@ -33,11 +33,9 @@ pub record UsualBbx (text : List ℕ) (four : Four) (rest : List ℕ) : Type 0 w
 
 -- ---- a bitmap line
 
--- the feed that ends a line's digits at a position: there, or after a return
-pub record IsFeedAt (text : List ℕ) (at end : ℕ) : Type 0 where
-  pub inside : end < length text
-  pub feed : get_or text end 0 ≡ 0x0A
-  pub place : (end ≡ at) ⊎ ((end ≡ at + 1) × (get_or text at 0 ≡ 0x0D))
+-- a feed stands before the rest, alone or after a return
+pub record FeedBefore (text rest : List ℕ) : Type 0 where
+  pub place : (text ≡ 0x0A ∷ rest) ⊎ (text ≡ 0x0D ∷ 0x0A ∷ rest)
 
 -- a bitmap line
 pub record IsRow (text : List ℕ) (width bits : ℕ) (rest : List ℕ) : Type 0 where

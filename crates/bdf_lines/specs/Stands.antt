@@ -1,24 +1,22 @@
 -- Numbers at the head of a text, up to a byte, and the words up to a feed. Assumes nothing.
 -- Serves contracts: nothing here has to be believed.
-use Rattle.std.specs.Prelude.{ℕ, ◌≤◌, ◌≡◌, Bool, true, not, ◌&&◌, ◌||◌, List, [], ◌∷◌, ◌++◌, map, length, drop, Some, eqb, ltb}
+use Rattle.std.specs.Prelude.{ℕ, ◌≡◌, Bool, true, not, ◌&&◌, ◌||◌, List, [], ◌∷◌, ◌++◌, map, Some, eqb, ltb}
 use Rattle.bdf_lines.specs.declared.values.Number.{Number}
 use Rattle.bdf_lines.specs.Words.{words, digits_of, number_of}
 
 -- ---- numbers
 
--- digits from a position on, and the byte `stop` before the position `to`
-pub record DigitsAt (text : List ℕ) (from : ℕ) (minus : Bool) (stop : ℕ) (n : Number) (to : ℕ) : Type 0 where
+-- digits, and the byte `stop` before the rest
+pub record IsDigits (text : List ℕ) (minus : Bool) (stop : ℕ) (n : Number) (rest : List ℕ) : Type 0 where
   pub word : List ℕ
   pub number : digits_of minus word ≡ Some n
-  pub here : drop from text ≡ word ++ (stop ∷ drop to text)
-  pub inside : to ≤ length text
+  pub here : text ≡ word ++ (stop ∷ rest)
 
--- a number from a position on, and the byte `stop` before the position `to`
-pub record NumberAt (text : List ℕ) (from stop : ℕ) (n : Number) (to : ℕ) : Type 0 where
+-- a number, and the byte `stop` before the rest
+pub record IsNumber (text : List ℕ) (stop : ℕ) (n : Number) (rest : List ℕ) : Type 0 where
   pub word : List ℕ
   pub number : number_of word ≡ Some n
-  pub here : drop from text ≡ word ++ (stop ∷ drop to text)
-  pub inside : to ≤ length text
+  pub here : text ≡ word ++ (stop ∷ rest)
 
 -- ---- words up to a feed
 

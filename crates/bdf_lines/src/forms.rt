@@ -1,59 +1,55 @@
 // The usual forms of a glyph's lines, read at the head of a text: one blank between words, and a feed at the end; and a bitmap line.
 // What each gives is what follows the feed.
-ghost use Rattle.std.specs.Prelude.{◌≡◌, ◌≤◌, ◌<◌, IfSome, MatchOption, length};
+ghost use Rattle.std.specs.Prelude.{◌≡◌, ◌≤◌, IfSome, MatchOption, length};
 ghost use Rattle.characters.specs.Lines.{line_length, line_from};
 ghost use Rattle.bdf_lines.specs.Keywords.{start_char, swidth, dwidth, bitmap, end_char};
 ghost use Rattle.bdf_lines.specs.Words.{is_alone, is_named, has_numbers};
-ghost use Rattle.bdf_lines.specs.Forms.{LineBefore, UsualLine, UsualEncoding, UsualBbx, IsFeedAt, IsRow};
-ghost use Rattle.bdf_lines.specs.Stands.{DigitsAt, NumberAt, TwoAfter};
+ghost use Rattle.bdf_lines.specs.Forms.{LineBefore, UsualLine, UsualEncoding, UsualBbx, FeedBefore, IsRow};
+ghost use Rattle.bdf_lines.specs.Stands.{IsDigits, IsNumber, TwoAfter};
 
 use super::values;
 use super::values::{Four, Number};
 use characters::lines::line_length;
 
-// The number whose digits stand from a position on, up to a given byte, and the position after that.
-// Positions, since by what is left after each number a font is read in 1.03 of the instructions.
-fn digits_to(text: &[u8], from: usize, minus: bool, stop: u8) -> Option<(Number, usize)>
-    ensures { IfSome result (λ p. DigitsAt text.now from minus stop p.0 p.1) }
+// The number whose digits a text begins with, up to a given byte, and what follows that.
+fn digits_to(text: &[u8], minus: bool, stop: u8) -> Option<(Number, &[u8])>
+    ensures { IfSome result (λ p. IsDigits text.now minus stop p.0 p.1.now) }
 {
     let mut v = 0;
-    for i in from..text.len() {
-        let b = text[i];
-        if !values::is_digit(b) {
-            if (b != stop) | (i == from) {
+    for (i, &b) in text.iter().enumerate() {
+        if !b.is_ascii_digit() {
+            if (b != stop) | (i == 0) {
                 return None;
             }
             let n = Number {
                 negative: minus & (0 < v),
                 size: v,
             };
-            return Some((n, i + 1));
+            return Some((n, &text[i + 1..]));
         }
         v = values::appended(v, b);
     }
     None
 }
 
-// The number that stands from a position on, up to a given byte, and the position after that.
-fn number_to(text: &[u8], from: usize, stop: u8) -> Option<(Number, usize)>
-    ensures { IfSome result (λ p. NumberAt text.now from stop p.0 p.1) }
+// The number that a text begins with, up to a given byte, and what follows that.
+fn number_to(text: &[u8], stop: u8) -> Option<(Number, &[u8])>
+    ensures { IfSome result (λ p. IsNumber text.now stop p.0 p.1.now) }
 {
-    if from < text.len() {
-        if text[from] == b'-' {
-            return digits_to(text, from + 1, true, stop);
-        }
+    match text {
+        [b'-', digits @ ..] => digits_to(digits, true, stop),
+        _ => digits_to(text, false, stop),
     }
-    digits_to(text, from, false, stop)
 }
 
 // What follows given bytes and two numbers.
 fn two_numbers<'a>(text: &'a [u8], name: &[u8]) -> Option<&'a [u8]>
     ensures { IfSome result (λ rest. TwoAfter text.now name.now rest.now) }
 {
-    let numbers = text.strip_prefix(name)?;
-    let (_, second) = number_to(numbers, 0, b' ')?;
-    let (_, end) = number_to(numbers, second, b'\n')?;
-    Some(&numbers[end..])
+    let rest = text.strip_prefix(name)?;
+    let (_, rest) = number_to(rest, b' ')?;
+    let (_, rest) = number_to(rest, b'\n')?;
+    Some(rest)
 }
 
 // The first line of a text, and what follows its feed, if a feed ends it.
@@ -108,64 +104,48 @@ pub fn end_char(text: &[u8]) -> Option<&[u8]>
 }
 
 // ENCODING and a number, which is given too.
-pub fn encoding_at(text: &[u8]) -> Option<(Number, &[u8])>
+pub fn encoding(text: &[u8]) -> Option<(Number, &[u8])>
     ensures { IfSome result (λ p. UsualEncoding text.now p.0 p.1.now) }
 {
-    let number = text.strip_prefix(b"ENCODING ")?;
-    let (n, end) = number_to(number, 0, b'\n')?;
-    Some((n, &number[end..]))
+    number_to(text.strip_prefix(b"ENCODING ")?, b'\n')
 }
 
 // BBX and four numbers, which are given too.
-pub fn bbx_at(text: &[u8]) -> Option<(Four, &[u8])>
+pub fn bbx(text: &[u8]) -> Option<(Four, &[u8])>
     ensures { IfSome result (λ p. UsualBbx text.now p.0 p.1.now) }
 {
-    let numbers = text.strip_prefix(b"BBX ")?;
-    let (width, second) = number_to(numbers, 0, b' ')?;
-    let (height, third) = number_to(numbers, second, b' ')?;
-    let (x, fourth) = number_to(numbers, third, b' ')?;
-    let (y, end) = number_to(numbers, fourth, b'\n')?;
+    let rest = text.strip_prefix(b"BBX ")?;
+    let (width, rest) = number_to(rest, b' ')?;
+    let (height, rest) = number_to(rest, b' ')?;
+    let (x, rest) = number_to(rest, b' ')?;
+    let (y, rest) = number_to(rest, b'\n')?;
     let four = Four {
         width,
         height,
         x,
         y,
     };
-    Some((four, &numbers[end..]))
+    Some((four, rest))
 }
 
-// Where the feed stands that ends a line's digits at a position: there, or after a return.
-// A position, since by what is left after the digits a font is read in 1.04 of the instructions.
-fn feed_at(text: &[u8], at: usize) -> Option<usize>
-    requires { at < length text.now }
-    ensures { IfSome result (λ end. IsFeedAt text.now at end) }
+// What follows the feed that a text begins with, or a return and a feed.
+fn after_feed(text: &[u8]) -> Option<&[u8]>
+    ensures { IfSome result (λ rest. FeedBefore text.now rest.now) }
 {
-    if text[at] == b'\n' {
-        return Some(at);
+    match text {
+        [b'\n', rest @ ..] => Some(rest),
+        [b'\r', b'\n', rest @ ..] => Some(rest),
+        _ => None,
     }
-    if text[at] != b'\r' {
-        return None;
-    }
-    let next = at + 1;
-    if text.len() <= next {
-        return None;
-    }
-    if text[next] != b'\n' {
-        return None;
-    }
-    Some(next)
 }
 
 // A bitmap line of so many pixels, if a feed ends it: its bits, and what follows.
-pub fn row_at(text: &[u8], width: u32) -> Option<(u64, &[u8])>
+pub fn row(text: &[u8], width: u32) -> Option<(u64, &[u8])>
     requires { width ≤ 64 }
     ensures { IfSome result (λ p. IsRow text.now width p.0 p.1.now) }
 {
-    let digits = 2 * ((width + 7) / 8) as usize;
-    if text.len() <= digits {
-        return None;
-    }
-    let end = feed_at(text, digits)?;
-    let bits = values::row_of(&text[..digits], width)?;
-    Some((bits, &text[end + 1..]))
+    let (digits, rest) = text.split_at_checked(2 * width.div_ceil(8) as usize)?;
+    let rest = after_feed(rest)?;
+    let bits = values::row_of(digits, width)?;
+    Some((bits, rest))
 }

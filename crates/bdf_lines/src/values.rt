@@ -23,12 +23,6 @@ pub struct Four {
     pub y: Number,
 }
 
-pub fn is_digit(b: u8) -> bool
-    ensures { result ≡ is_digit b }
-{
-    b.is_ascii_digit()
-}
-
 // The number of v followed by a digit, or the greatest that counts.
 pub fn appended(v: u64, digit: u8) -> u64
     requires digit_value { is_digit digit ≡ true }
@@ -50,7 +44,7 @@ fn digits(word: &[u8], minus: bool) -> Option<Number>
     }
     let mut v = 0;
     for &b in word {
-        if !is_digit(b) {
+        if !b.is_ascii_digit() {
             return None;
         }
         v = appended(v, b);
@@ -215,7 +209,7 @@ pub fn row_of(line: &[u8], width: u32) -> Option<u64>
     requires { width ≤ 64 }
     ensures { result ≡ row_of width line.now }
 {
-    let bytes = (width + 7) / 8;
+    let bytes = width.div_ceil(8);
     if line.len() != 2 * bytes as usize {
         return None;
     }

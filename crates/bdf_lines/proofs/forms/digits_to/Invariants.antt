@@ -5,4 +5,4 @@ use Rattle.bdf_lines.proofs.Stands.{Running}
 use Rattle.bdf_lines.proofs.forms.digits_to.Given as goal
 
 abbrev pub invariant-loop-i : goal.invariant-loop-i
-invariant-loop-i l = (l.v ≤ most) × Running l.text l.from l.i l.v
+invariant-loop-i l = (l.v ≤ most) × Running l.text l.i l.v

@@ -1,7 +1,6 @@
 -- `two_numbers` meets its contract: given bytes, then numbers up to a blank and up to a feed. Assumes nothing.
-use Rattle.std.proofs.Common.{refl}
 use Rattle.bdf_lines.proofs.UsualForms.{stripped, two_after}
 use Rattle.bdf_lines.proofs.forms.two_numbers.Goals as goal
 
 pub returns : goal.returns
-returns c = two_after _ _ _ _ _ _ _ _ (stripped _ _ c.in_ok-numbers.numbers c.in_ok-numbers.ensures.cases) c.in_ok-second.ensures c.in_ok-end.ensures refl
+returns c = two_after _ _ _ _ _ _ _ (stripped _ _ c.in_ok-rest.rest c.in_ok-rest.ensures.cases) c.in_ok-rest-2.ensures c.in_ok-rest-3.ensures
