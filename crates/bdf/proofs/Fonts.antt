@@ -14,6 +14,7 @@ use borrow.Rule.Slice.PartMut.{put_mid, post_of}
 use Rattle.characters.specs.Refusal.{unless_refused}
 use Rattle.bdf.specs.declared.reader.Reader.{Reader}
 use Rattle.std.specs.Prelude.{Result, Err}
+use Rattle.std.specs.Int.{div_ceil}
 use Rattle.refusals.specs.declared.Refusal.{Refusal}
 use Rattle.refusals.specs.declared.Refusal.TheVariants.{OutputTooShort}
 use Rattle.refusals.specs.Numbers.{number, refusal_of}
@@ -39,15 +40,12 @@ module _ (file : List ℕ) (last : Reader) (m : IsMeasured file last) where
 -- the atlas of a reader
 module _ (r : Reader) (w : Within r) where
   abbrev rows : ℕ
-  rows = (r.glyphs + 15) / 16 * r.cell.height
+  rows = div_ceil r.glyphs 16 * r.cell.height
 
   rows_few : rows ≤ 262_208
   rows_few =
-      let m : (r.glyphs + 15) / 16 * r.cell.height ≤ 4_097 * r.cell.height = mul-le-mul_right r.cell.height (omega (arith, w.counted, w.short)) in
+      let m : div_ceil r.glyphs 16 * r.cell.height ≤ 4_097 * r.cell.height = mul-le-mul_right r.cell.height (omega (arith, w.counted, w.short)) in
       omega (arith, w.good_cell.low)
-
-  pub sum_fits : Fits w32 (r.glyphs + 15)
-  sum_fits = omega (arith, w.counted, w.short)
 
   pub stride_fits : Fits w32 (2 * r.cell.width)
   stride_fits = omega (arith, w.good_cell.narrow)
@@ -68,11 +66,10 @@ module _ (r : Reader) (w : Within r) where
 
   pub size_is : rows * (2 * r.cell.width) ≡ atlas_size r.cell r.glyphs
   unfolding atlas_size
-  size_is = refl
+  size_is = let e : div_ceil r.glyphs 16 ≡ (r.glyphs + 15) / 16 = omega arith in ap (λ (k : ℕ). k * r.cell.height * (2 * r.cell.width)) e
 
   pub atlas_small : atlas_size r.cell r.glyphs ≤ 40_000_000
-  unfolding atlas_size
-  atlas_small = size_small
+  atlas_small = rw (← size_is) size_small
 
 -- ---- the parts written
 

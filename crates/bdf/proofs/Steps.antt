@@ -12,6 +12,8 @@ use borrow.Author.Tests.{not-true, not-false, leb-true, leb-false, lt-ltb, le-lt
 use Rattle.characters.specs.Utf8.{is_surrogate}
 use Rattle.characters.proofs.Refusals.{all_true}
 use Rattle.std.specs.Prelude.{Option, Some, None, Result, Ok, Err}
+use Rattle.std.specs.Option.{ok_or}
+use Rattle.std.specs.Result.{IsErrAnd}
 use Rattle.refusals.specs.declared.Refusal.{Refusal}
 use Rattle.refusals.specs.declared.Refusal.TheVariants.{BdfLine, BdfLimit, BdfEncoding}
 use Rattle.bdf_lines.specs.declared.values.Four.{Four}
@@ -53,6 +55,28 @@ not_on t e = rw e
 
 pub ruleset chain = (and_next, and_stop, and_last, not_off, not_on, le-leb, lt-leb)
 
+-- ---- what `ok_or` and `?` give
+
+module _ {A : Type 0} (z : Option A) (k : Result A Refusal) (v : k ≡ ok_or z BdfLine) where
+  pub there : (x : A) → k ≡ Ok x → z ≡ Some x
+  there x w = go z (sym v ∙ w)
+    where
+      go : (z : Option A) → ok_or z BdfLine ≡ Ok x → z ≡ Some x
+      go (Some y) c = cc
+      go None c = cc
+
+  missing : (d : Refusal) → k ≡ Err d → (z ≡ None) × (d ≡ BdfLine)
+  missing d w = go z (sym v ∙ w)
+    where
+      go : (z : Option A) → ok_or z BdfLine ≡ Err d → (z ≡ None) × (d ≡ BdfLine)
+      go (Some y) c = cc
+      go None c = (refl, cc)
+
+  -- a line that f refuses where its words are none
+  pub refused : (f : Option A → Result Answer Refusal) → f None ≡ Err BdfLine → (d : Refusal) → k ≡ Err d → (x : Result Answer Refusal) → IsErrAnd x (λ e. e ≡ d) → x ≡ f z
+  refused f n d w (Ok a) h = absurd h
+  refused f n d w (Err e) h = let m = missing d w in rw (m.0, n, h, m.1)
+
 -- ---- lines
 
 module _ (e : Expected) (r s : Reader) where
@@ -64,9 +88,6 @@ module _ (e : Expected) (r s : Reader) where
 
   pub counted_of : (x : Option ℕ) (n : ℕ) → x ≡ Some n → s ≡ leaving e n r → Ok (Passed s) ≡ counted x e r
   counted_of x n t q = rw (t, q)
-
-  pub counted_wrong : (x : Option ℕ) → x ≡ None → Err BdfLine ≡ counted x e r
-  counted_wrong x t = rw t
 
 module _ (r s : Reader) (x y z : Option ℕ) (e : z ≡ x) where
   pub properties_of : (n : ℕ) → z ≡ Some n → s ≡ leaving Property n r → Ok (Passed s) ≡ properties_line x y r
@@ -259,14 +280,6 @@ module _ (w h x y : Number) (t : Bool) (o : not t ≡ false) where
 -- ---- FONTBOUNDINGBOX and BBX
 
 module _ (z : Option Four) (r : Reader) where
-  pub cell_wrong : z ≡ None → Err BdfLine ≡ cell_line z r
-  unfolding cell_line
-  cell_wrong e = rw e
-
-  pub box_wrong : z ≡ None → Err BdfLine ≡ bbx_line z r
-  unfolding bbx_line
-  box_wrong e = rw e
-
   module _ (f : Four) (e : z ≡ Some f) (t : Bool) where
     pub cell_bad : t ≡ is_cell f.width f.height f.x f.y → not t ≡ true → Err BdfLimit ≡ cell_line z r
     unfolding cell_line
@@ -287,10 +300,6 @@ module _ (z : Option Four) (r : Reader) where
 -- ---- bitmap lines
 
 module _ (z : Option ℕ) (r : Reader) where
-  pub row_wrong : z ≡ None → Err BdfLine ≡ row_line z r
-  unfolding row_line
-  row_wrong e = rw e
-
   pub row_drawn : (bits : ℕ) → z ≡ Some bits → Ok (Drawn (with_row r) bits) ≡ row_line z r
   unfolding row_line
   row_drawn bits e = rw e
@@ -321,10 +330,6 @@ module _ (n : Number) where
       go false false e f = absurd (false≢true f)
 
 module _ (z : Option Number) (r : Reader) where
-  pub encoding_wrong : z ≡ None → Err BdfLine ≡ encoding_line z r
-  unfolding encoding_line
-  encoding_wrong e = rw e
-
   module _ (n : Number) (e : z ≡ Some n) (t : Bool) (q : t ≡ is_character n) where
     pub encoding_bad : not t ≡ true → Err BdfEncoding ≡ encoding_line z r
     unfolding encoding_line

@@ -1,12 +1,12 @@
 // Writing a font: a bitmap line in a row of the atlas, a character in the mapping, and the record.
-ghost use Rattle.std.specs.Prelude.{◌≡◌, ◌≤◌, length, replicate};
+ghost use Rattle.std.specs.Prelude.{◌≡◌, ◌≤◌, length};
 ghost use Rattle.geometry.specs.Layer.{map_indexed};
 ghost use Rattle.bdf.specs.Reader.{spelling};
 ghost use Rattle.bdf.specs.Font.{record_of};
 ghost use Rattle.bdf.specs.Stores.{metrics};
 ghost use Rattle.bdf.specs.Writing.{with_bits, BitsFit, GoodCell};
 
-use super::reader::{BoundingBox, ORIGIN};
+use super::reader::{BoundingBox, OFFSET_ORIGIN};
 use geometry::store_bytes;
 
 // Puts the bits of a bitmap line into a row of the atlas, from pixel `left` up to `end`.
@@ -81,13 +81,6 @@ pub fn put_character(part: &mut [u8], v: u32)
     part[3] = last;
 }
 
-// Clears an atlas.
-pub fn clear(atlas: &mut [u8])
-    ensures { atlas.new ≡ replicate (length atlas.old) 0 }
-{
-    atlas.fill(0);
-}
-
 // Stores the metrics of a cell: its sides, spacing, baseline, strikethrough and underline.
 fn put_metrics(output: &mut [u8], cell: BoundingBox)
     requires output_len { length output.old ≡ 10 }
@@ -97,7 +90,7 @@ fn put_metrics(output: &mut [u8], cell: BoundingBox)
     output[0] = cell.width as u8;
     output[1] = cell.height as u8;
     output[2] = 0;
-    output[3] = (cell.height + cell.y).saturating_sub(ORIGIN + 1) as u8;
+    output[3] = (cell.height + cell.y).saturating_sub(OFFSET_ORIGIN + 1) as u8;
     output[4] = (cell.height.saturating_sub(1) / 2) as u8;
     output[5] = 1;
     output[6] = (cell.height + 1) as u8;

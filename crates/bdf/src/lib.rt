@@ -32,7 +32,7 @@ impl<'a> MeasuredFile<'a> {
         ensures { result ≡ atlas_size self.now.last.cell self.now.last.glyphs }
     {
         let cell = self.last.cell;
-        let rows = (self.last.glyphs + 15) / 16 * cell.height;
+        let rows = self.last.glyphs.div_ceil(16) * cell.height;
         let stride = 2 * cell.width;
         rows as usize * stride as usize
     }
@@ -43,7 +43,7 @@ impl<'a> MeasuredFile<'a> {
         ensures { pieces.new ≡ atlas_of (font_of self.now.file.now) ++ mapping_of (font_of self.now.file.now) }
     {
         let size = self.atlas_size();
-        glyphs::clear(&mut pieces[0..size]);
+        pieces[0..size].fill(0);
         let _ = file::pass(self.file, pieces, size, true);
     }
 

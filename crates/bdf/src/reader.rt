@@ -12,9 +12,9 @@ use bdf_lines::{values, words};
 use refusals::Refusal;
 
 // Offsets are counted from −1,000,000,000, so that each is a natural number.
-pub const ORIGIN: u32 = 1000000000;
+pub const OFFSET_ORIGIN: u32 = 1000000000;
 
-// A box: its sides, and the offsets of its lower left corner, counted from −1,000,000,000.
+// A box: its sides, and the offsets of its lower left corner, counted from −1,000,000,000. Beside `Four`, whose numbers are not tested yet.
 #[derive(Clone, Copy, Debug, PartialEq, Eq)]
 pub struct BoundingBox {
     pub width: u32,
@@ -91,12 +91,12 @@ fn place(n: Number) -> u32
 {
     let size = n.size as u32;
     if n.negative {
-        return ORIGIN - size;
+        return OFFSET_ORIGIN - size;
     }
-    ORIGIN + size
+    OFFSET_ORIGIN + size
 }
 
-// The box of four numbers.
+// The box of four numbers. No `TryFrom`, which would first have to test a side against 4,294,967,295, as neither test of a box does.
 fn box_of(four: Four) -> BoundingBox
     requires { IsBox four.width four.height four.x four.y }
     ensures { result ≡ box four.width four.height four.x four.y }
@@ -115,7 +115,7 @@ fn box_of(four: Four) -> BoundingBox
 fn is_box(four: Four) -> bool
     ensures { result ≡ is_box four.width four.height four.x four.y }
 {
-    let limit = u64::from(ORIGIN);
+    let limit = u64::from(OFFSET_ORIGIN);
     !four.width.negative & !four.height.negative & (four.x.size <= limit) & (four.y.size <= limit)
 }
 
@@ -133,7 +133,7 @@ fn is_cell(four: Four) -> bool
         return false;
     }
     let height = four.height.size as u32;
-    height + place(four.y) <= ORIGIN + 256
+    height + place(four.y) <= OFFSET_ORIGIN + 256
 }
 
 // Whether a side from a place on ends no later than another.
@@ -244,9 +244,7 @@ impl Reader {
     fn counted(self, count: Option<u64>, expected: Expected) -> Result<Answer, Refusal>
         ensures { result ≡ counted count expected self }
     {
-        let Some(n) = count else {
-            return Err(Refusal::BdfLine);
-        };
+        let n = count.ok_or(Refusal::BdfLine)?;
         Ok(Answer::Passed(self.leaving(expected, n)))
     }
 
@@ -254,9 +252,7 @@ impl Reader {
     fn cell_line(self, four: Option<Four>) -> Result<Answer, Refusal>
         ensures { result ≡ cell_line four self }
     {
-        let Some(numbers) = four else {
-            return Err(Refusal::BdfLine);
-        };
+        let numbers = four.ok_or(Refusal::BdfLine)?;
         if !is_cell(numbers) {
             return Err(Refusal::BdfLimit);
         }
@@ -290,9 +286,7 @@ impl Reader {
         requires { self.read < 64 }
         ensures { result ≡ row_line row self }
     {
-        let Some(bits) = row else {
-            return Err(Refusal::BdfLine);
-        };
+        let bits = row.ok_or(Refusal::BdfLine)?;
         let next = Reader {
             expected: Expected::Rows,
             read: self.read + 1,
@@ -345,13 +339,12 @@ impl SoundReader {
         if 65535 < mapping {
             return Err(Refusal::BdfLimit);
         }
-        let read = 0;
         let next = Reader {
             expected: Expected::Swidth,
             glyphs: self.state.glyphs + 1,
             mapping,
             least: v + 1,
-            read,
+            read: 0,
             ..self.state
         };
         Ok(Answer::Encoded(next, v))
@@ -361,9 +354,7 @@ impl SoundReader {
     pub fn encoding_line(self, encoding: Option<Number>) -> Result<Answer, Refusal>
         ensures { result ≡ encoding_line encoding self.state }
     {
-        let Some(n) = encoding else {
-            return Err(Refusal::BdfLine);
-        };
+        let n = encoding.ok_or(Refusal::BdfLine)?;
         if !is_character(n) {
             return Err(Refusal::BdfEncoding);
         }
@@ -377,9 +368,7 @@ impl SoundReader {
     pub fn bbx_line(self, four: Option<Four>) -> Result<Answer, Refusal>
         ensures { result ≡ bbx_line four self.state }
     {
-        let Some(numbers) = four else {
-            return Err(Refusal::BdfLine);
-        };
+        let numbers = four.ok_or(Refusal::BdfLine)?;
         if !is_in_cell(self.state.cell, numbers) {
             return Err(Refusal::BdfLimit);
         }

@@ -36,7 +36,7 @@ fn end_move(text: &[u8], reader: Reader) -> Option<(Reader, &[u8])>
 }
 
 // The first line, if it only leads to another state: that state.
-pub fn move_at(text: &[u8], reader: Reader) -> Option<(Reader, &[u8])>
+pub fn moved(text: &[u8], reader: Reader) -> Option<(Reader, &[u8])>
     ensures { IfSome result (λ p. UsualMove text.now reader p.0 p.1.now) }
 {
     let expected = reader.expected;
@@ -64,7 +64,7 @@ fn encoding_answer(text: &[u8], reader: SoundReader) -> Option<(Result<Answer, R
     requires { reader.state.expected ≡ Encoding }
     ensures { IfSome result (λ p. UsualAnswer text.now reader.state p.0 p.1.now) }
 {
-    let (n, rest) = forms::encoding_at(text)?;
+    let (n, rest) = forms::encoding(text)?;
     Some((reader.encoding_line(Some(n)), rest))
 }
 
@@ -73,12 +73,12 @@ fn bbx_answer(text: &[u8], reader: SoundReader) -> Option<(Result<Answer, Refusa
     requires { reader.state.expected ≡ Bbx }
     ensures { IfSome result (λ p. UsualAnswer text.now reader.state p.0 p.1.now) }
 {
-    let (four, rest) = forms::bbx_at(text)?;
+    let (four, rest) = forms::bbx(text)?;
     Some((reader.bbx_line(Some(four)), rest))
 }
 
 // What ENCODING or BBX does.
-pub fn answer_at(text: &[u8], reader: SoundReader) -> Option<(Result<Answer, Refusal>, &[u8])>
+pub fn answer(text: &[u8], reader: SoundReader) -> Option<(Result<Answer, Refusal>, &[u8])>
     ensures { IfSome result (λ p. UsualAnswer text.now reader.state p.0 p.1.now) }
 {
     let expected = reader.state.expected;

@@ -8,8 +8,8 @@ use Rattle.bdf.proofs.file.pass.Goals as goal
 pub loop-next-init : goal.loop-next-init
 loop-next-init c = search pass_start
 
-pub rows_at-position-requires : goal.rows_at-position-requires
-rows_at-position-requires c = search pass_here
+pub pass_rows-progress-requires : goal.pass_rows-progress-requires
+pass_rows-progress-requires c = search pass_here
 
 pub loop-next-smaller-in-Some : goal.loop-next-smaller-in-Some
 loop-next-smaller-in-Some c = search (move_less, c.in-Some.ensures)

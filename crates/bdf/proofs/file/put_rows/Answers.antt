@@ -9,8 +9,8 @@ strip_of-strip-requires c = search bitmap-glyph
 pub loop-read-init : goal.loop-read-init
 loop-read-init c = (search rows_same, search rows_start)
 
-pub row_at-requires : goal.row_at-requires
-row_at-requires c = search width_small
+pub row-requires : goal.row-requires
+row-requires c = search width_small
 
 pub put_row-requires : goal.put_row-requires
 put_row-requires c = search (row_strip_fits, c.in-Some.ensures)

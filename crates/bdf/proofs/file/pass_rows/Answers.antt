@@ -1,6 +1,6 @@
--- `rows_at` meets its contract: bitmap lines are next, or nothing changes. Assumes nothing.
+-- `pass_rows` meets its contract: bitmap lines are next, or nothing changes. Assumes nothing.
 use Rattle.bdf.proofs.Walks.{told, carries_none}
-use Rattle.bdf.proofs.file.rows_at.Goals as goal
+use Rattle.bdf.proofs.file.pass_rows.Goals as goal
 
 pub put_rows-requires-clause-reader_value : goal.put_rows-requires-clause-reader_value
 put_rows-requires-clause-reader_value c = search told

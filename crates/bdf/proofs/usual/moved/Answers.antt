@@ -1,6 +1,6 @@
--- `move_at` meets its contract: each line that is expected has its law. Assumes nothing.
+-- `moved` meets its contract: each line that is expected has its law. Assumes nothing.
 use Rattle.bdf.proofs.Moves.{scalable_on, device_on, bitmap_on}
-use Rattle.bdf.proofs.usual.move_at.Goals as goal
+use Rattle.bdf.proofs.usual.moved.Goals as goal
 
 pub returns-in_ok-rest-in-Swidth : goal.returns-in_ok-rest-in-Swidth
 returns-in_ok-rest-in-Swidth c = search (scalable_on, c.in_ok-rest-in-Swidth.ensures)
