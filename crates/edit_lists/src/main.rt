@@ -14,7 +14,7 @@ use station::{station_draw, station_edit_list};
 
 // ---- what a rectangle covers
 
-// A number that is not negative; 65,536, where no frame reaches, for one that is.
+// A number that is not negative; 65,536, where no frame reaches, for one that is, as it is printed.
 fn natural(z: i32) -> usize {
     usize::try_from(z).unwrap_or(65536)
 }
@@ -47,52 +47,52 @@ fn is_batch(bytes: &[u8]) -> bool {
     byte_at(bytes, 0) == 3
 }
 
-fn data_size(bytes: &[u8]) -> usize
+// How many bytes of a new text, a new style or a batch the data have behind their length.
+fn data_size(data: &[u8]) -> usize
     ensures { result < 65536 }
 {
-    usize::from(u16_of(rest(bytes, 5)))
+    usize::from(u16_of(data))
 }
 
 // The new text or style, or the batch.
+fn bytes_of(data: &[u8]) -> &[u8] {
+    part(data, 2, data_size(data))
+}
+
+// The edit of a kind that an item's data say.
+fn edit_of(kind: u8, item: u32, data: &[u8]) -> Edit<'_> {
+    Edit::of(
+        kind,
+        item,
+        i32_of(data),
+        i32_of(rest(data, 4)),
+        bytes_of(data),
+    )
+}
+
+// The data of an edit or a batch in the list.
 fn data_of(bytes: &[u8]) -> &[u8] {
-    part(bytes, 7, data_size(bytes))
+    rest(bytes, 5)
 }
 
 // The bytes of an edit or a batch in the list.
 fn edit_size(bytes: &[u8]) -> usize {
     match byte_at(bytes, 0) {
         1 => 13,
-        _ => 7 + data_size(bytes),
+        _ => 7 + data_size(data_of(bytes)),
     }
-}
-
-// The edit that stands in the list.
-fn edit_of(bytes: &[u8]) -> Edit<'_> {
-    let item = u32_of(rest(bytes, 1));
-    let x = i32_of(rest(bytes, 5));
-    let y = i32_of(rest(bytes, 9));
-    Edit::of(byte_at(bytes, 0), item, x, y, data_of(bytes))
 }
 
 // ---- a batch made singly on the sheet alone: its entries are a kind (1 byte), an item (1), and the data, a length (2) and the bytes; they are read
 // here, and not by crate `entries`, which is part of what is compared
 
-fn entry_data_size(entry: &[u8]) -> usize
-    ensures { result < 65536 }
-{
-    usize::from(u16_of(rest(entry, 2)))
-}
-
 // The edit that an entry is.
 fn edit_of_entry(entry: &[u8]) -> Edit<'_> {
     let item = u32::from(byte_at(entry, 1));
-    let x = i32_of(rest(entry, 4));
-    let y = i32_of(rest(entry, 8));
-    let bytes = part(entry, 4, entry_data_size(entry));
-    Edit::of(byte_at(entry, 0), item, x, y, bytes)
+    edit_of(byte_at(entry, 0), item, rest(entry, 2))
 }
 
-// A left column or a top row; 65,536 for one that is negative or further.
+// A left column or a top row; 65,536 for one that is negative or further, as `natural` has it.
 fn corner(z: i32) -> u32
     ensures { result ≤ 65536 }
 {
@@ -130,7 +130,7 @@ fn join(a: Reply, b: Reply) -> Reply {
 // Makes the entries of a batch up to the first that is refused; the reply that theirs form.
 fn make_singly(sheet: &mut [u8], list: &[u8]) -> Reply {
     let mut batch = Reply::of_code(0);
-    for entry in Entries::of(list, |entry| 4 + entry_data_size(entry)) {
+    for entry in Entries::of(list, |entry| 4 + data_size(rest(entry, 2))) {
         let reply = Reply::from(edit_of_entry(entry).make_on_sheet(sheet));
         if reply.code != 0 {
             return Reply {
@@ -181,11 +181,12 @@ impl<'a> Run<'a> {
     // Makes an edit or a batch both ways; the reply with the frame, and the other.
     fn make(&mut self, bytes: &[u8]) -> (Reply, Reply) {
         if is_batch(bytes) {
-            let list = data_of(bytes);
+            let list = bytes_of(data_of(bytes));
             let reply = Reply::from(station_edit_list(self.patched, self.frame, list));
             return (reply, make_counted(self.fresh, list, reply));
         }
-        let edit = edit_of(bytes);
+        let item = u32_of(rest(bytes, 1));
+        let edit = edit_of(byte_at(bytes, 0), item, data_of(bytes));
         let reply = edit.make(self.patched, self.frame);
         (
             Reply::from(reply),
@@ -238,6 +239,7 @@ impl<'a> Run<'a> {
     }
 }
 
+// Arrays of a fixed size: no heap, fixed memory.
 fn main(rt: HostRuntime) {
     let mut input = [0u8; 65537];
     let n = read_full(&mut rt.stdin(), &mut input);

@@ -280,6 +280,7 @@ fn try_block(out: &impl Print, block: &[u8]) {
     }
 }
 
+// Arrays of a fixed size: no heap, fixed memory.
 fn main(rt: HostRuntime) {
     let mut input = [0u8; 65536];
     let n = read_full(&mut rt.stdin(), &mut input);

@@ -87,7 +87,7 @@ fn show(out: &impl Print, kind: u8, bytes: &[u8]) {
 
 // ---- a line of input
 
-// The value of a hexadecimal digit.
+// The value of a hexadecimal digit. By arithmetic, which has a value for any byte; `to_digit` has none for a byte that is no digit.
 fn digit(byte: u8) -> u8
     ensures { result < 16 }
 {
@@ -123,6 +123,7 @@ fn show_line(out: &impl Print, line: &[u8]) {
     let _ = println!(out);
 }
 
+// Arrays of a fixed size: no heap, fixed memory.
 fn main(rt: HostRuntime) {
     let mut text = [0u8; 8192];
     let n = read_full(&mut rt.stdin(), &mut text);

@@ -12,7 +12,8 @@ use std::fmt;
 
 // ---- the parts of a case and of a call
 
-// The number that the first two bytes of a list store, and what follows it, unless the list ends in it.
+// The number that the first two bytes of a list store, and what follows it, unless the list ends in it. Two functions, here and below, since
+// `from_le_bytes` is of no trait that u16 and u32 share.
 fn first_u16(list: &[u8]) -> Option<(u16, &[u8])>
     ensures { IfSome result (λ p. (p.0 ≡ length_at list.now 0) × (p.1.now ≡ drop 2 list.now) × (length p.1.now < length list.now)) }
 {
@@ -377,6 +378,7 @@ fn replay_list(out: &impl Print, list: &[u8]) {
     }
 }
 
+// Arrays of a fixed size: no heap, fixed memory.
 fn main(rt: HostRuntime) {
     let mut list = [0u8; 294912];
     let n = read_full(&mut rt.stdin(), &mut list);

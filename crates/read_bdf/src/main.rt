@@ -18,6 +18,7 @@ fn run(rt: &HostRuntime, file: &mut [u8], font: &mut [u8]) -> Result<(), Fault> 
     Ok(())
 }
 
+// Arrays of a fixed size: no heap, fixed memory.
 fn main(rt: HostRuntime) {
     let mut file = [0u8; 4194305];
     let mut font = [0u8; 1048576];

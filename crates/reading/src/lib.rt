@@ -1,4 +1,5 @@
-// What the programs read: a slice of a fixed size, filled from a reader as far as it goes.
+// What the programs read: a slice of a fixed size, filled from a reader as far as it goes. A program's arrays have fixed sizes, and what is filled of
+// them is lent as a slice: no heap, fixed memory, as the project has it.
 #![tactic(auto)]
 
 ghost use Rattle.std.specs.Prelude.{◌≤◌, length};

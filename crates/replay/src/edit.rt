@@ -6,7 +6,7 @@ ghost use Rattle.replay.specs.Spelled.{spelled};
 
 use station::Box;
 
-// An edit of an item: a new text, a new place or a new style. Its item's number is part of it, and not beside it as in a list of edits: a case stores one of both.
+// An edit of an item: a new text, a new place or a new style. Not `entries::Entry`, which has both too: the programs do not lean on what they compare.
 #[derive(Clone, Copy, Debug, PartialEq, Eq)]
 pub enum Edit<'a> {
     Text(u32, &'a [u8]),

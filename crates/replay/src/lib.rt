@@ -6,6 +6,7 @@
 ghost use Rattle.std.specs.Prelude.{◌≡◌, true, ◌+◌, ◌*◌, ◌^◌, ◌<◌, ◌≤◌, min, leb, length, get_or, take, drop};
 ghost use Rattle.std.specs.Int.{w32, cast_signed};
 ghost use Rattle.std.specs.Iterator.{at_most};
+ghost use Rattle.std.specs.Option.{is_some};
 ghost use Rattle.replay.specs.Stored.{stored};
 
 mod edit;
@@ -21,7 +22,7 @@ pub fn byte_at(bytes: &[u8], at: usize) -> u8
     bytes.get(at).copied().unwrap_or(0)
 }
 
-// The number that the first two bytes store.
+// The number that the first two bytes store. Two functions, here and below, since `from_le_bytes` is of no trait that u16 and u32 share.
 pub fn u16_of(bytes: &[u8]) -> u16
     ensures { result ≡ get_or bytes.now 0 0 + 256 * get_or bytes.now 1 0 }
 {
@@ -105,15 +106,15 @@ impl<'a, F: Fn(&[u8]) -> usize> Iterator for Entries<'a, F> {
     }
 }
 
-// Stores bytes from `at` on and answers true, or false where they do not fit; then nothing is stored.
-pub fn store(to: &mut [u8], at: usize, bytes: &[u8]) -> bool
-    ensures value { result ≡ leb (at + length bytes.now) (length to.old) }
+// Stores bytes from `at` on; nothing where they do not fit.
+pub fn store(to: &mut [u8], at: usize, bytes: &[u8]) -> Option<()>
+    ensures value { is_some result ≡ leb (at + length bytes.now) (length to.old) }
     ensures to_after { to.new ≡ stored to.old at bytes.now }
 {
     if at > to.len() || bytes.len() > to.len() - at {
-        return false;
+        return None;
     }
     let end = at + bytes.len();
     to[at..end].copy_from_slice(bytes);
-    true
+    Some(())
 }

@@ -45,6 +45,7 @@ fn sheet_length(rt: &HostRuntime) -> usize
     (u32::from_le_bytes(head) as usize).min(65537)
 }
 
+// Arrays of a fixed size: no heap, fixed memory.
 fn main(rt: HostRuntime) {
     let mut file = [0u8; 65537];
     let mut list = [0u8; 65537];

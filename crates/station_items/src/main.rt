@@ -29,6 +29,7 @@ fn write_items(rt: &HostRuntime, sheet: &[u8], frame: &mut [u8]) -> Result<(), F
 }
 
 // A file of more than 65,536 bytes is read past that limit, and so refused.
+// Arrays of a fixed size: no heap, fixed memory.
 fn main(rt: HostRuntime) {
     let mut file = [0u8; 65537];
     let n = read_full(&mut rt.stdin(), &mut file);

@@ -21,6 +21,7 @@ fn write_page_of(
 }
 
 // A file of more than 65,536 bytes is read past that limit, and so refused. A page has at most 15 bytes more than pixels.
+// Arrays of a fixed size: no heap, fixed memory.
 fn main(rt: HostRuntime) {
     let mut file = [0u8; 65537];
     let n = read_full(&mut rt.stdin(), &mut file);

@@ -46,6 +46,7 @@ fn show_file(out: &impl Print, number: usize, file: &[u8], filled: &[u8], output
 }
 
 // The list has at most 262,144 bytes: records of 4 bytes for a length, then a file of that length.
+// Arrays of a fixed size: no heap, fixed memory.
 fn main(rt: HostRuntime) {
     let mut input = [0u8; 262145];
     let n = read_full(&mut rt.stdin(), &mut input);

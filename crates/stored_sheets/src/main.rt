@@ -44,6 +44,7 @@ fn show_check(out: &impl Print, number: usize, sheet: &[u8]) {
     };
 }
 
+// Arrays of a fixed size: no heap, fixed memory.
 fn main(rt: HostRuntime) {
     let mut file = [0u8; 65537];
     let n = read_full(&mut rt.stdin(), &mut file);

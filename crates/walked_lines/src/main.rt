@@ -36,6 +36,7 @@ fn walk_line(out: &impl Print, line: &[u8]) -> usize
 }
 
 // The lines stand between line feeds: n feeds give n + 1 lines.
+// Arrays of a fixed size: no heap, fixed memory.
 fn main(rt: HostRuntime) {
     let mut text = [0u8; 4096];
     let n = read_full(&mut rt.stdin(), &mut text);
