@@ -5,7 +5,7 @@ ghost use Rattle.sheet.specs.Requires.{FontListed, ItemListed};
 use sheet::Sheet;
 
 // A font of an accepted sheet.
-#[derive(Clone, Copy, Debug)]
+#[derive(Clone, Copy, Debug, PartialEq, Eq)]
 pub struct FontRecord<'a> {
     pub sheet: Sheet<'a>,
     pub number: u32,
@@ -13,7 +13,7 @@ pub struct FontRecord<'a> {
 }
 
 // An item of an accepted sheet.
-#[derive(Clone, Copy, Debug)]
+#[derive(Clone, Copy, Debug, PartialEq, Eq)]
 pub struct ItemRecord<'a> {
     pub sheet: Sheet<'a>,
     pub number: u32,

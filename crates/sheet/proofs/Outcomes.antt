@@ -1,6 +1,6 @@
 -- One law for each way out of a test over the whole sheet. Assumes nothing.
 use Prim.Native.Nat.{ℕ, ◌+◌, ◌-◌, ◌≤◌, ◌<◌}
-use mathlib.Core.Path.{◌≡◌, refl, sym, ◌∙◌}
+use mathlib.Core.Path.{◌≡◌, refl, sym, ap, ◌∙◌}
 use mathlib.Core.Bool.{Bool, true, false, true≢false, and-true, and-false}
 use mathlib.Core.List.{List}
 use mathlib.Mathlib.Data.Bool.Basic.{eq-false_of_not-eq-true}
@@ -10,14 +10,19 @@ use native.Mathlib.Omega.{arith}
 use borrow.Author.Tests.{eq-eqb, ne_eqb, leb-true}
 use Rattle.limits.specs.declared.ItemFields.{ItemFields}
 use Rattle.limits.specs.Limits.{header_refusal, item_limits}
-use Rattle.std.specs.Prelude.{Option, None, Some, IsSome}
-use Rattle.std.specs.Option.{option_eq}
+use Rattle.std.specs.Prelude.{Option, None, Some, IsSome, Result, Err}
+use Rattle.std.specs.Option.{option_eq, ok_or}
+use Rattle.std.specs.Result.{IsErrAnd}
+use Rattle.refusals.specs.declared.Refusal.{Refusal}
+use Rattle.refusals.specs.declared.Refusal.TheVariants.{Length}
+use Rattle.refusals.specs.Numbers.{refusal_of}
+use Rattle.refusals.proofs.Numbers.{not_zero}
 use Rattle.sheet.specs.Fields.{le16_at, le32_at, fonts_offset, items_offset, font_count, item_count, font_at, item_at, pieces_at}
 use Rattle.sheet.specs.Pieces.{font_pieces, slot_pieces, pieces_of, pieces}
 use Rattle.sheet.specs.Conforming.{Headed}
 use Rattle.sheet.specs.Check.{reach, ends_at, header_fields, layout_tests, is_laid_out, item_fields, item_numbers, check_header, check_fonts, check_items, check}
 use Rattle.sheet.specs.Accepted.{FontIn, ItemIn, LaidOut, Accepted}
-use Rattle.characters.proofs.Refusals.{all_true}
+use Rattle.characters.proofs.Refusals.{handed_on, all_true}
 use Rattle.sheet.proofs.Chains.{ends_chain, chain_le, then_reach, reach-append}
 use Rattle.sheet.proofs.LaidOut.{laid_out}
 use Rattle.sheet.proofs.Acceptance.{headed, text_in_slot, accepted}
@@ -88,13 +93,18 @@ item_in_at b n k o g e h q = rw q (g.item_in k (omega arith))
 
 -- ---- the whole
 
-pub short_header : {A : Type 0} (b : List ℕ) (o : Option A) → (24 ≤ length b → IsSome o) → o ≡ None → 1 ≡ check_header b
-unfolding check_header header_refusal header_fields
-short_header b o f e = go (leb 24 (length b)) refl
-  where
-    go : (t : Bool) → leb 24 (length b) ≡ t → 1 ≡ check_header b
-    go true h = absurd (true≢false (sym (rw e at f (leb-true _ _ h))))
-    go false h = rw h
+module _ (b : List ℕ) (short : 24 ≤ length b → ⊥) where
+  length_refused : 1 ≡ check_header b
+  unfolding check_header header_refusal header_fields
+  length_refused = go (leb 24 (length b)) refl
+    where
+      go : (t : Bool) → leb 24 (length b) ≡ t → 1 ≡ check_header b
+      go true h = absurd (short (leb-true _ _ h))
+      go false h = rw h
+
+pub short_header : {A B : Type 0} (b : List ℕ) (o : Option A) (r : Result B Refusal) (d : Refusal) → (24 ≤ length b → IsSome o) → Err d ≡ ok_or o Length → IsErrAnd r (λ e. e ≡ d) → refusal_of r ≡ check_header b
+short_header b None r d f e h = handed_on r d h ∙ ap refusal_of e ∙ length_refused b (λ l. true≢false (sym (f l)))
+short_header b (Some x) r d f e h = absurd (not_zero d (ap refusal_of e))
 
 -- c is the file whose header was read
 module _ (b c : List ℕ) (same : c ≡ b) (z : 0 ≡ check_header b) where

@@ -45,7 +45,7 @@ pub fn font_offset(n: u32) -> usize
 }
 
 // A file of which the header is there.
-#[derive(Clone, Copy, Debug)]
+#[derive(Clone, Copy, Debug, PartialEq, Eq)]
 pub struct Header<'a> {
     pub bytes: &'a [u8],
     pub ghost whole: { 24 ≤ length bytes.now },

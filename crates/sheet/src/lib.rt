@@ -16,7 +16,7 @@ pub mod fields;
 pub mod pieces;
 
 // An accepted sheet.
-#[derive(Clone, Copy, Debug)]
+#[derive(Clone, Copy, Debug, PartialEq, Eq)]
 pub struct Sheet<'a> {
     pub bytes: &'a [u8],
     pub ghost accepted: { Accepted bytes.now },
@@ -54,9 +54,7 @@ fn check_header(bytes: &[u8]) -> Result<Header<'_>, Refusal>
     ensures value { refusal_of result ≡ check_header bytes.now }
     ensures same_bytes { IfOk result (λ header. header.bytes.now ≡ bytes.now) }
 {
-    let Some(header) = Header::of(bytes) else {
-        return Err(Refusal::Length);
-    };
+    let header = Header::of(bytes).ok_or(Refusal::Length)?;
     header_refusal(header_fields(header))?;
     Ok(header)
 }
@@ -130,7 +128,7 @@ fn all_zero(bytes: &[u8]) -> bool
     bytes.iter().all(|b| *b == 0)
 }
 
-// Refusals 9 and 10 of the item whose record stands at `o`, in a sheet of `fonts` fonts.
+// Refusals 9 and 10 of the item whose record stands at `o`.
 #[tactic(auto, using(characters::proofs::Refusals::chain), unfolding(crate::specs::Check::check_item))]
 fn check_item(header: Header<'_>, o: usize) -> Result<(), Refusal>
     requires { ItemIn header.bytes.now o }

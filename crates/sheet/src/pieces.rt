@@ -9,7 +9,7 @@ ghost use Rattle.sheet.specs.Requires.{RecordsIn};
 use super::fields::{Header, font_offset, u16_at, u32_at};
 
 // A file of which the records are there, within the header's limits.
-#[derive(Clone, Copy, Debug)]
+#[derive(Clone, Copy, Debug, PartialEq, Eq)]
 struct Records<'a> {
     header: Header<'a>,
     ghost within: { RecordsIn header.bytes.now },
