@@ -1,4 +1,5 @@
-// Styles by the codes that a file stores of them: a match for each, and no TryFrom, since the check lets no other code through.
+// Styles by the codes that a file stores of them, for an accepted sheet. Refusal 9 tests the codes in `limits`, which stands below `line` and `text` and knows
+// numbers alone, so that no TryFrom can do it there.
 ghost use Rattle.std.specs.Prelude.{◌≡◌, length};
 ghost use Rattle.records.specs.Records.{optional_grey, decoration_color, alignment, baseline, line_height, style_of};
 

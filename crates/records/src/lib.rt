@@ -15,7 +15,7 @@ use line::{DecorationDimensions, Font, Metrics, MonoFont, MonoTextStyle};
 pub use listed::{FontRecord, ItemRecord};
 use mapping::Mapping;
 use sheet::Sheet;
-use sheet::fields::{font_offset, part, u8_at, u16_at, u32_at};
+use sheet::fields::{Record, part};
 use text::{Text, TextLayout, TextStyle};
 
 mod codes;
@@ -46,31 +46,37 @@ pub fn item(sheet: Sheet<'_>, n: u32) -> Option<ItemRecord<'_>>
 }
 
 impl<'a> FontRecord<'a> {
+    fn record(self) -> Record<'a>
+        ensures same_bytes { result.bytes.now ≡ self.entry.sheet.bytes.now }
+        ensures place { result.at ≡ font_at self.entry.number }
+    {
+        self.sheet.header().font(self.number)
+    }
+
     // The font's numbers, within their limits.
     #[tactic(auto, using(crate::proofs::Readings::font_limits_lem), unfolding(crate::specs::Records::mono_font))]
     pub fn metrics(self) -> Metrics
         ensures { result.font ≡ mono_font self.entry.sheet.bytes.now (font_at self.entry.number) }
     {
-        let bytes = self.sheet.bytes;
-        let o = font_offset(self.number);
+        let record = self.record();
         Metrics::new(MonoFont {
             atlas: Atlas {
-                width: u16_at(bytes, o + 16) as u32,
+                width: record.u16_at(16) as u32,
                 cell_size: Size {
-                    width: u8_at(bytes, o + 18),
-                    height: u8_at(bytes, o + 19),
+                    width: u32::from(record.byte(18)),
+                    height: u32::from(record.byte(19)),
                 },
             },
-            replacement_index: u16_at(bytes, o + 14) as u32,
-            character_spacing: u8_at(bytes, o + 20),
-            baseline: u8_at(bytes, o + 21),
+            replacement_index: record.u16_at(14) as u32,
+            character_spacing: u32::from(record.byte(20)),
+            baseline: u32::from(record.byte(21)),
             strikethrough: DecorationDimensions {
-                offset: u8_at(bytes, o + 22),
-                height: u8_at(bytes, o + 23),
+                offset: u32::from(record.byte(22)),
+                height: u32::from(record.byte(23)),
             },
             underline: DecorationDimensions {
-                offset: u8_at(bytes, o + 24),
-                height: u8_at(bytes, o + 25),
+                offset: u32::from(record.byte(24)),
+                height: u32::from(record.byte(25)),
             },
         })
     }
@@ -79,19 +85,17 @@ impl<'a> FontRecord<'a> {
     pub fn atlas(self) -> &'a [u8]
         ensures { result.now ≡ atlas_bytes self.entry.sheet.bytes.now (font_at self.entry.number) }
     {
-        let bytes = self.sheet.bytes;
-        let o = font_offset(self.number);
-        part(bytes, u32_at(bytes, o), u32_at(bytes, o + 4))
+        let record = self.record();
+        part(record.bytes, record.u32_at(0), record.u32_at(4))
     }
 
     // The font's mapping.
     pub fn mapping(self) -> Mapping<'a>
         ensures { result.bytes.now ≡ mapping_bytes self.entry.sheet.bytes.now (font_at self.entry.number) }
     {
-        let bytes = self.sheet.bytes;
-        let o = font_offset(self.number);
+        let record = self.record();
         Mapping {
-            bytes: part(bytes, u32_at(bytes, o + 8), u16_at(bytes, o + 12)),
+            bytes: part(record.bytes, record.u32_at(8), record.u16_at(12)),
         }
     }
 
@@ -109,19 +113,15 @@ impl<'a> FontRecord<'a> {
 fn coordinate(n: u16) -> u32
     ensures { (result ≡ coordinate n) × (result ≤ 4_194_304) }
 {
-    let near = ORIGIN + u32::from(n);
-    if n < 32768 {
-        return near;
-    }
-    near - 65536
+    (ORIGIN as i32 + i32::from(n.cast_signed())) as u32
 }
 
 impl<'a> ItemRecord<'a> {
-    // Where the item's record stands.
-    fn offset(self) -> usize
-        ensures { result ≡ item_at self.entry.sheet.bytes.now self.entry.number }
+    fn record(self) -> Record<'a>
+        ensures same_bytes { result.bytes.now ≡ self.entry.sheet.bytes.now }
+        ensures place { result.at ≡ item_at self.entry.sheet.bytes.now self.entry.number }
     {
-        self.sheet.header().item_offset(self.number)
+        self.sheet.header().item(self.number)
     }
 
     // The font that the item is set in.
@@ -129,10 +129,9 @@ impl<'a> ItemRecord<'a> {
         ensures same_sheet { result.sheet.bytes.now ≡ self.entry.sheet.bytes.now }
         ensures number_value { result.number ≡ font_number self.entry.sheet.bytes.now (item_at self.entry.sheet.bytes.now self.entry.number) }
     {
-        let number = u8_at(self.sheet.bytes, self.offset() + 12);
         FontRecord {
             sheet: self.sheet,
-            number,
+            number: u32::from(self.record().byte(12)),
         }
     }
 
@@ -140,9 +139,8 @@ impl<'a> ItemRecord<'a> {
     pub fn text(self) -> &'a [u8]
         ensures { result.now ≡ text_bytes self.entry.sheet.bytes.now (item_at self.entry.sheet.bytes.now self.entry.number) }
     {
-        let bytes = self.sheet.bytes;
-        let o = self.offset();
-        part(bytes, u32_at(bytes, o + 4), u16_at(bytes, o + 10))
+        let record = self.record();
+        part(record.bytes, record.u32_at(4), record.u16_at(10))
     }
 
     // The item's x and y.
@@ -151,11 +149,10 @@ impl<'a> ItemRecord<'a> {
         ensures value { result ≡ (item_of self.entry.sheet.bytes.now (item_at self.entry.sheet.bytes.now self.entry.number)).position }
         ensures x_bound { (result.x ≤ 4_194_304) × (result.y ≤ 4_194_304) }
     {
-        let bytes = self.sheet.bytes;
-        let o = self.offset();
+        let record = self.record();
         Point {
-            x: coordinate(u16_at(bytes, o) as u16),
-            y: coordinate(u16_at(bytes, o + 2) as u16),
+            x: coordinate(record.u16_at(0) as u16),
+            y: coordinate(record.u16_at(2) as u16),
         }
     }
 
@@ -164,8 +161,8 @@ impl<'a> ItemRecord<'a> {
     pub fn mono_text_style(self) -> MonoTextStyle
         ensures { result ≡ mono_text_style self.entry.sheet.bytes.now (item_at self.entry.sheet.bytes.now self.entry.number) }
     {
-        let from = self.offset() + 13;
-        style_of(&self.sheet.bytes[from..from + 8])
+        let record = self.record();
+        style_of(part(record.bytes, record.at + 13, 8))
     }
 
     // How the item's lines are set.
@@ -173,12 +170,11 @@ impl<'a> ItemRecord<'a> {
     pub fn text_style(self) -> TextStyle
         ensures { result ≡ text_style self.entry.sheet.bytes.now (item_at self.entry.sheet.bytes.now self.entry.number) }
     {
-        let bytes = self.sheet.bytes;
-        let o = self.offset();
+        let record = self.record();
         TextStyle {
-            alignment: alignment(bytes[o + 21]),
-            baseline: baseline(bytes[o + 22]),
-            line_height: line_height(bytes[o + 23], u16_at(bytes, o + 24) as u32),
+            alignment: alignment(record.byte(21)),
+            baseline: baseline(record.byte(22)),
+            line_height: line_height(record.byte(23), record.u16_at(24) as u32),
         }
     }
 

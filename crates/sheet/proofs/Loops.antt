@@ -3,6 +3,7 @@ use Prim.Native.Nat.{ℕ, suc, ◌+◌, ◌-◌, ◌≤◌, ◌<◌}
 use mathlib.Core.Path.{◌≡◌, ◌∙◌, ap}
 use mathlib.Core.List.{List}
 use lib.ListN.{length}
+use native.Mathlib.Nat.{add-zero}
 use native.Mathlib.Numerals.{add-one}
 use native.Mathlib.Omega.{arith}
 use borrow.Author.Tests.{eq-eqb, ne_eqb}
@@ -21,30 +22,33 @@ left_suc n k h = omega arith
 
 -- ---- the pieces of a font, and of an item
 
-module _ (b : List ℕ) (k p o atlas : ℕ) (eo : o ≡ font_at k) (ea : atlas ≡ le32_at b o) where
-  pub atlas_misplaced : (atlas ≡ p → ⊥) → reach (font_pieces b k) p ≡ None
-  unfolding font_pieces reach
-  atlas_misplaced t = rw (← eo, ← ea, ne_eqb _ _ t)
+-- c is the file of the record
+module _ (b c : List ℕ) (same : c ≡ b) (k p o : ℕ) where
+  module _ (atlas : ℕ) (eo : o ≡ font_at k) (ea : atlas ≡ le32_at c (o + 0)) where
+    starts : atlas ≡ le32_at c o
+    starts = rw add-zero at ea
 
-  module _ (t : atlas ≡ p) (size mapping : ℕ) (es : size ≡ le32_at b (o + 4)) (em : mapping ≡ le32_at b (o + 8)) where
-    pub mapping_misplaced : (mapping ≡ p + size → ⊥) → reach (font_pieces b k) p ≡ None
+    pub atlas_misplaced : (atlas ≡ p → ⊥) → reach (font_pieces b k) p ≡ None
     unfolding font_pieces reach
-    mapping_misplaced u = rw (← eo, ← ea, ← es, ← em, eq-eqb _ _ t, ne_eqb _ _ u)
+    atlas_misplaced t = rw (← same, ← eo, ← starts, ne_eqb _ _ t)
 
-    pub font_to : (length : ℕ) → length ≡ le16_at b (o + 12) → mapping ≡ p + size → reach (font_pieces b k) p ≡ Some (p + size + length)
-    unfolding font_pieces reach
-    font_to length el u = rw (← eo, ← ea, ← es, ← em, ← el, eq-eqb _ _ t, eq-eqb _ _ u)
+    module _ (t : atlas ≡ p) (size mapping : ℕ) (es : size ≡ le32_at c (o + 4)) (em : mapping ≡ le32_at c (o + 8)) where
+      pub mapping_misplaced : (mapping ≡ p + size → ⊥) → reach (font_pieces b k) p ≡ None
+      unfolding font_pieces reach
+      mapping_misplaced u = rw (← same, ← eo, ← starts, ← es, ← em, eq-eqb _ _ t, ne_eqb _ _ u)
 
-module _ (b : List ℕ) (k p o slot : ℕ) (eo : o ≡ item_at b k) (es : slot ≡ le32_at b (o + 4)) where
-  pub slot_misplaced : (slot ≡ p → ⊥) → reach (slot_pieces b k) p ≡ None
-  unfolding slot_pieces reach
-  slot_misplaced t = rw (← eo, ← es, ne_eqb _ _ t)
+      pub font_to : (length : ℕ) → length ≡ le16_at c (o + 12) → mapping ≡ p + size → reach (font_pieces b k) p ≡ Some (p + size + length)
+      unfolding font_pieces reach
+      font_to length el u = rw (← same, ← eo, ← starts, ← es, ← em, ← el, eq-eqb _ _ t, eq-eqb _ _ u)
 
-  pub slot_to : (size : ℕ) → size ≡ le16_at b (o + 8) → slot ≡ p → reach (slot_pieces b k) p ≡ Some (p + size)
-  unfolding slot_pieces reach
-  slot_to size ez t = rw (← eo, ← es, ← ez, eq-eqb _ _ t)
+  module _ (slot : ℕ) (eo : o ≡ item_at b k) (es : slot ≡ le32_at c (o + 4)) where
+    pub slot_misplaced : (slot ≡ p → ⊥) → reach (slot_pieces b k) p ≡ None
+    unfolding slot_pieces reach
+    slot_misplaced t = rw (← eo, ← same, ← es, ne_eqb _ _ t)
 
--- ---- zeros
+    pub slot_to : (size : ℕ) → size ≡ le16_at c (o + 8) → slot ≡ p → reach (slot_pieces b k) p ≡ Some (p + size)
+    unfolding slot_pieces reach
+    slot_to size ez t = rw (← eo, ← same, ← es, ← ez, eq-eqb _ _ t)
 
 -- ---- the first refusal of some records
 
@@ -66,10 +70,11 @@ refusal_done f n k e h i = let z : n - k ≡ 0 = omega arith in rw z at i
 pub refusal-start : (f : ℕ → ℕ) (n m : ℕ) → n ≡ m → first_refusal f (n - 0) 0 ≡ first_refusal f m 0
 refusal-start f n m e = ap (λ (k : ℕ). first_refusal f k 0) (omega arith)
 
-pub font_refusal_is : (b : List ℕ) (k o r : ℕ) → o ≡ font_at k → r ≡ check_font b o → r ≡ font_refusal b k
-unfolding font_refusal
-font_refusal_is b k o r e h = rw (← e) h
+module _ (b c : List ℕ) (same : c ≡ b) (k o r : ℕ) where
+  pub font_refusal_is : o ≡ font_at k → r ≡ check_font c o → r ≡ font_refusal b k
+  unfolding font_refusal
+  font_refusal_is e h = rw (same, e) at h
 
-pub item_refusal_is : (b : List ℕ) (k o r : ℕ) → o ≡ item_at b k → r ≡ check_item b o → r ≡ item_refusal b k
-unfolding item_refusal
-item_refusal_is b k o r e h = rw (← e) h
+  pub item_refusal_is : o ≡ item_at b k → r ≡ check_item c o → r ≡ item_refusal b k
+  unfolding item_refusal
+  item_refusal_is e h = rw (same, e) at h

@@ -69,8 +69,8 @@ module _ (b : List ℕ) where
 
 -- ---- a font
 
-pub font_in_at : (b : List ℕ) (n k o : ℕ) → LaidOut b → n ≡ font_count b → k < n → o ≡ font_at k → FontIn b o
-font_in_at b n k o g e h q = rw q (g.font_in k (omega arith))
+pub font_in_at : (b c : List ℕ) (n k o : ℕ) → LaidOut b → n ≡ font_count b → k < n → c ≡ b → o ≡ font_at k → FontIn c o
+font_in_at b c n k o g e h s q = rw (s, q) (g.font_in k (omega arith))
 
 -- ---- an item
 
@@ -88,8 +88,8 @@ module _ (b : List ℕ) (o fonts : ℕ) (i : ItemFields) (ei : i ≡ item_fields
     pub tail_in : slot + len + (size - len) ≤ length b
     tail_in = omega (arith, text_fits, g.slot_in)
 
-pub item_in_at : (b : List ℕ) (n k o : ℕ) → LaidOut b → n ≡ item_count b → k < n → o ≡ item_at b k → ItemIn b o
-item_in_at b n k o g e h q = rw q (g.item_in k (omega arith))
+pub item_in_at : (b c : List ℕ) (n k o : ℕ) → LaidOut b → n ≡ item_count b → k < n → c ≡ b → o ≡ item_at b k → ItemIn c o
+item_in_at b c n k o g e h s q = rw (s, q) (g.item_in k (omega arith))
 
 -- ---- the whole
 

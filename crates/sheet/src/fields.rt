@@ -44,6 +44,47 @@ pub fn font_offset(n: u32) -> usize
     24 + 28 * n as usize
 }
 
+// A font's or an item's record of 28 bytes: the file, in which the definitions place each field, and where the record stands in it.
+#[derive(Clone, Copy, Debug, PartialEq, Eq)]
+pub struct Record<'a> {
+    pub bytes: &'a [u8],
+    pub at: usize,
+    pub ghost whole: { at + 28 ≤ length bytes.now },
+}
+
+impl<'a> Record<'a> {
+    // The header of the record's file.
+    pub fn header(self) -> Header<'a>
+        ensures { result.bytes.now ≡ self.entry.bytes.now }
+    {
+        Header { bytes: self.bytes }
+    }
+
+    // Byte `k` of the record.
+    pub fn byte(self, k: usize) -> u8
+        requires { k < 28 }
+        ensures { result ≡ byte_at self.entry.bytes.now (self.entry.at + k) }
+    {
+        self.bytes[self.at + k]
+    }
+
+    // The number that the two bytes from byte `k` on store.
+    pub fn u16_at(self, k: usize) -> usize
+        requires { k + 2 ≤ 28 }
+        ensures { (result ≡ le16_at self.entry.bytes.now (self.entry.at + k)) × (result < 2 ^ 16) }
+    {
+        u16_at(self.bytes, self.at + k)
+    }
+
+    // The number that the four bytes from byte `k` on store.
+    pub fn u32_at(self, k: usize) -> usize
+        requires { k + 4 ≤ 28 }
+        ensures { (result ≡ le32_at self.entry.bytes.now (self.entry.at + k)) × (result < 2 ^ 32) }
+    {
+        u32_at(self.bytes, self.at + k)
+    }
+}
+
 // A file of which the header is there.
 #[derive(Clone, Copy, Debug, PartialEq, Eq)]
 pub struct Header<'a> {
@@ -104,5 +145,28 @@ impl<'a> Header<'a> {
     {
         let first = font_offset(self.font_count());
         first + 28 * n as usize
+    }
+    // The record of font `n`.
+    pub fn font(self, n: u32) -> Record<'a>
+        requires { font_at n + 28 ≤ length self.bytes.now }
+        ensures same_bytes { result.bytes.now ≡ self.entry.bytes.now }
+        ensures place { result.at ≡ font_at n }
+    {
+        Record {
+            bytes: self.bytes,
+            at: font_offset(n),
+        }
+    }
+
+    // The record of item `n`.
+    pub fn item(self, n: u32) -> Record<'a>
+        requires { item_at self.bytes.now n + 28 ≤ length self.bytes.now }
+        ensures same_bytes { result.bytes.now ≡ self.entry.bytes.now }
+        ensures place { result.at ≡ item_at self.entry.bytes.now n }
+    {
+        Record {
+            bytes: self.bytes,
+            at: self.item_offset(n),
+        }
     }
 }

@@ -6,7 +6,7 @@ ghost use Rattle.refusals.specs.Numbers.{refusal_of};
 ghost use Rattle.sheet.specs.Check.{header_fields, check_header, font_fields, check_font, check_fonts, item_fields, zeros, check_item, check_items, check};
 ghost use Rattle.sheet.specs.Accepted.{FontIn, ItemIn, LaidOut, Accepted};
 
-use fields::{Header, font_offset, part, u8_at, u16_at, u32_at};
+use fields::{Header, Record, part, u16_at, u32_at};
 use limits::{FontFields, HeaderFields, ItemFields, font_limits, header_refusal, item_limits};
 use pieces::is_laid_out;
 use refusals::Refusal;
@@ -59,31 +59,30 @@ fn check_header(bytes: &[u8]) -> Result<Header<'_>, Refusal>
     Ok(header)
 }
 
-// The fields of the font whose record stands at `o`, as refusal 6 tests them.
+// The fields of a font, as refusal 6 tests them.
 #[tactic(auto, unfolding(crate::specs::Check::font_fields))]
-fn font_fields(bytes: &[u8], o: usize) -> FontFields
-    requires { o + 28 ≤ length bytes.now }
-    ensures { result ≡ font_fields bytes.now o }
+fn font_fields(font: Record<'_>) -> FontFields
+    ensures { result ≡ font_fields font.entry.bytes.now font.entry.at }
 {
     FontFields {
-        cw: bytes[o + 18],
-        ch: bytes[o + 19],
-        spacing: bytes[o + 20],
-        atlas_width: u16_at(bytes, o + 16),
-        zero: u16_at(bytes, o + 26),
+        cw: font.byte(18),
+        ch: font.byte(19),
+        spacing: font.byte(20),
+        atlas_width: font.u16_at(16),
+        zero: font.u16_at(26),
     }
 }
 
-// Refusals 6 to 8 of the font whose record stands at `o`.
+// Refusals 6 to 8 of a font.
 #[tactic(auto, using(characters::proofs::Refusals::chain), unfolding(crate::specs::Check::check_font))]
-fn check_font(bytes: &[u8], o: usize) -> Result<(), Refusal>
-    requires { FontIn bytes.now o }
-    ensures { refusal_of result ≡ check_font bytes.now o }
+fn check_font(font: Record<'_>) -> Result<(), Refusal>
+    requires { FontIn font.bytes.now font.at }
+    ensures { refusal_of result ≡ check_font font.entry.bytes.now font.entry.at }
 {
-    font_limits(font_fields(bytes, o))?;
-    let from = u32_at(bytes, o + 8);
-    let size = u16_at(bytes, o + 12);
-    mapping::check_mapping(part(bytes, from, size))
+    font_limits(font_fields(font))?;
+    let from = font.u32_at(8);
+    let size = font.u16_at(12);
+    mapping::check_mapping(part(font.bytes, from, size))
 }
 
 // Refusals 6 to 8 of the fonts, by number.
@@ -91,33 +90,31 @@ fn check_fonts(header: Header<'_>) -> Result<(), Refusal>
     requires { LaidOut header.bytes.now }
     ensures { refusal_of result ≡ check_fonts header.entry.bytes.now }
 {
-    let bytes = header.bytes;
     let fonts = header.font_count();
     for k in 0..fonts {
-        check_font(bytes, font_offset(k))?;
+        check_font(header.font(k))?;
     }
     Ok(())
 }
 
-// The fields of the item whose record stands at `o`, as refusal 9 tests them.
+// The fields of an item, as refusal 9 tests them.
 #[tactic(auto, unfolding(crate::specs::Check::item_fields))]
-fn item_fields(bytes: &[u8], o: usize) -> ItemFields
-    requires { o + 28 ≤ length bytes.now }
-    ensures { result ≡ item_fields bytes.now o }
+fn item_fields(item: Record<'_>) -> ItemFields
+    ensures { result ≡ item_fields item.entry.bytes.now item.entry.at }
 {
     ItemFields {
-        slot_size: u16_at(bytes, o + 8),
-        text_length: u16_at(bytes, o + 10),
-        font: u8_at(bytes, o + 12),
-        text_mode: bytes[o + 13],
-        background_mode: bytes[o + 15],
-        underline_mode: bytes[o + 17],
-        strikethrough_mode: bytes[o + 19],
-        alignment: bytes[o + 21],
-        baseline: bytes[o + 22],
-        height_kind: bytes[o + 23],
-        height_value: u16_at(bytes, o + 24),
-        zero: u16_at(bytes, o + 26),
+        slot_size: item.u16_at(8),
+        text_length: item.u16_at(10),
+        font: u32::from(item.byte(12)),
+        text_mode: item.byte(13),
+        background_mode: item.byte(15),
+        underline_mode: item.byte(17),
+        strikethrough_mode: item.byte(19),
+        alignment: item.byte(21),
+        baseline: item.byte(22),
+        height_kind: item.byte(23),
+        height_value: item.u16_at(24),
+        zero: item.u16_at(26),
     }
 }
 
@@ -128,21 +125,20 @@ fn all_zero(bytes: &[u8]) -> bool
     bytes.iter().all(|b| *b == 0)
 }
 
-// Refusals 9 and 10 of the item whose record stands at `o`.
+// Refusals 9 and 10 of an item.
 #[tactic(auto, using(characters::proofs::Refusals::chain), unfolding(crate::specs::Check::check_item))]
-fn check_item(header: Header<'_>, o: usize) -> Result<(), Refusal>
-    requires { ItemIn header.bytes.now o }
-    ensures { refusal_of result ≡ check_item header.entry.bytes.now o }
+fn check_item(item: Record<'_>) -> Result<(), Refusal>
+    requires { ItemIn item.bytes.now item.at }
+    ensures { refusal_of result ≡ check_item item.entry.bytes.now item.entry.at }
 {
-    let bytes = header.bytes;
-    item_limits(item_fields(bytes, o), header.font_count())?;
-    let slot = u32_at(bytes, o + 4);
-    let size = u16_at(bytes, o + 8);
-    let len = u16_at(bytes, o + 10);
-    if !all_zero(part(bytes, slot + len, size - len)) {
+    item_limits(item_fields(item), item.header().font_count())?;
+    let slot = item.u32_at(4);
+    let size = item.u16_at(8);
+    let len = item.u16_at(10);
+    if !all_zero(part(item.bytes, slot + len, size - len)) {
         return Err(Refusal::Item);
     }
-    characters::walk(part(bytes, slot, len), Refusal::TextIllFormed)
+    characters::walk(part(item.bytes, slot, len), Refusal::TextIllFormed)
 }
 
 // Refusals 9 and 10 of the items, by number.
@@ -152,7 +148,7 @@ fn check_items(header: Header<'_>) -> Result<(), Refusal>
 {
     let items = header.item_count();
     for k in 0..items {
-        check_item(header, header.item_offset(k))?;
+        check_item(header.item(k))?;
     }
     Ok(())
 }

@@ -6,7 +6,7 @@ ghost use Rattle.sheet.specs.Conforming.{Headed};
 ghost use Rattle.sheet.specs.Check.{reach, is_laid_out};
 ghost use Rattle.sheet.specs.Requires.{RecordsIn};
 
-use super::fields::{Header, font_offset, u16_at, u32_at};
+use super::fields::{Header, font_offset, u32_at};
 
 // A file of which the records are there, within the header's limits.
 #[derive(Clone, Copy, Debug, PartialEq, Eq)]
@@ -20,15 +20,14 @@ fn fonts_end(records: Records<'_>, from: usize) -> Option<usize>
     ensures { result ≡ reach (pieces_of (font_pieces records.entry.header.bytes.now) (font_count records.entry.header.bytes.now) 0) from }
 {
     let header = records.header;
-    let bytes = header.bytes;
     let fonts = header.font_count();
     let mut p = from;
     for k in 0..fonts {
-        let o = font_offset(k);
-        let atlas = u32_at(bytes, o);
-        let atlas_length = u32_at(bytes, o + 4);
-        let mapping = u32_at(bytes, o + 8);
-        let mapping_length = u16_at(bytes, o + 12);
+        let font = header.font(k);
+        let atlas = font.u32_at(0);
+        let atlas_length = font.u32_at(4);
+        let mapping = font.u32_at(8);
+        let mapping_length = font.u16_at(12);
         if atlas != p || mapping != p + atlas_length {
             return None;
         }
@@ -42,13 +41,12 @@ fn slots_end(records: Records<'_>, from: usize) -> Option<usize>
     ensures { result ≡ reach (pieces_of (slot_pieces records.entry.header.bytes.now) (item_count records.entry.header.bytes.now) 0) from }
 {
     let header = records.header;
-    let bytes = header.bytes;
     let items = header.item_count();
     let mut p = from;
     for k in 0..items {
-        let o = header.item_offset(k);
-        let slot = u32_at(bytes, o + 4);
-        let size = u16_at(bytes, o + 8);
+        let item = header.item(k);
+        let slot = item.u32_at(4);
+        let size = item.u16_at(8);
         if slot != p {
             return None;
         }

@@ -7,4 +7,4 @@ use Rattle.sheet.specs.Check.{reach}
 use Rattle.sheet.proofs.pieces.fonts_end.Given as goal
 
 abbrev pub invariant-loop-k : goal.invariant-loop-k
-invariant-loop-k l = reach (pieces_of (font_pieces l.bytes) (l.fonts - l.k) l.k) l.p ≡ reach (pieces_of (font_pieces l.bytes) (font_count l.bytes) 0) l.from
+invariant-loop-k l = reach (pieces_of (font_pieces l.records.header.bytes.now) (l.fonts - l.k) l.k) l.p ≡ reach (pieces_of (font_pieces l.records.header.bytes.now) (font_count l.records.header.bytes.now) 0) l.from

@@ -7,4 +7,4 @@ use Rattle.sheet.specs.Check.{reach}
 use Rattle.sheet.proofs.pieces.slots_end.Given as goal
 
 abbrev pub invariant-loop-k : goal.invariant-loop-k
-invariant-loop-k l = reach (pieces_of (slot_pieces l.bytes) (l.items - l.k) l.k) l.p ≡ reach (pieces_of (slot_pieces l.bytes) (item_count l.bytes) 0) l.from
+invariant-loop-k l = reach (pieces_of (slot_pieces l.records.header.bytes.now) (l.items - l.k) l.k) l.p ≡ reach (pieces_of (slot_pieces l.records.header.bytes.now) (item_count l.records.header.bytes.now) 0) l.from
