@@ -18,9 +18,9 @@ use Rattle.text.specs.declared.TextStyle.{TextStyle}
 use Rattle.text.specs.Text.{Text}
 use Rattle.text.specs.Limits.{TextLimits, height_value}
 use Rattle.sheet.specs.Fields
-use Rattle.sheet.specs.Fields.{part, font_at, item_at, atlas_bytes, mapping_bytes, text_bytes}
+use Rattle.sheet.specs.Fields.{font_at, item_at, atlas_bytes, mapping_bytes, text_bytes}
 use Rattle.sheet.specs.Requires.{FontListed, ItemListed}
-use Rattle.sheet.proofs.Bytes.{length_part, part_at}
+use Rattle.sheet.proofs.Bytes.{length_part}
 use Rattle.records.specs.Records.{line_height, mono_font, font, mono_text_style, style_of, text_style, item_of, item, item_font}
 
 -- ---- what an accepted sheet gives
@@ -62,12 +62,15 @@ font_limits_lem b n m g e base so sh uo uh =
       underline_low = omega arith;
     }
 
-pub style_is : (b c : List ℕ) (n o : ℕ) (r : MonoTextStyle) → c ≡ b → o ≡ item_at b n → r ≡ style_of (part c (o + 13) 8) → r ≡ mono_text_style b (item_at b n)
+pub style_is : (b c : List ℕ) (n o : ℕ) (r : MonoTextStyle) → c ≡ b → o ≡ item_at b n → r ≡ style_of (take (o + 13 + 8 - (o + 13)) (drop (o + 13) c)) → r ≡ mono_text_style b (item_at b n)
 unfolding mono_text_style style_of
 style_is b c n o r same e p =
-    let at : (k j : ℕ) → k < 8 → j ≡ item_at b n + 13 + k → get_or (part c (o + 13) 8) k 0 ≡ get_or b j 0 =
-    λ k j l q. part_at c (o + 13) 8 k l ∙ rw same (ap (λ (i : ℕ). get_or b i 0) (omega arith)) in
+    let eight : o + 13 + 8 - (o + 13) ≡ 8 = omega arith in
+    let at : (k j : ℕ) → k < 8 → j ≡ item_at b n + 13 + k → get_or (take 8 (drop (o + 13) b)) k 0 ≡ get_or b j 0 =
+    λ k j l q. get_or-take 8 (drop (o + 13) b) k 0 l ∙ get_or-drop (o + 13) b k 0 ∙ ap (λ (i : ℕ). get_or b i 0) (omega arith) in
     p ∙ rw (
+      same,
+      eight,
       at 0 (item_at b n + 13) (omega arith) (omega arith),
       at 1 (item_at b n + 14) (omega arith) (omega arith),
       at 2 (item_at b n + 15) (omega arith) (omega arith),

@@ -1,5 +1,5 @@
-// Styles by the codes that a file stores of them, for an accepted sheet. Refusal 9 tests the codes in `limits`, which stands below `line` and `text` and knows
-// numbers alone, so that no TryFrom can do it there.
+// Styles by the codes that a file stores of them: a match for each, and no TryFrom, since refusal 9 of an unknown code comes from `limits`, which stands
+// below `line` and `text` and knows numbers alone.
 ghost use Rattle.std.specs.Prelude.{◌≡◌, length};
 ghost use Rattle.records.specs.Records.{optional_grey, decoration_color, alignment, baseline, line_height, style_of};
 

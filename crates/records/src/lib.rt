@@ -162,7 +162,8 @@ impl<'a> ItemRecord<'a> {
         ensures { result ≡ mono_text_style self.entry.sheet.bytes.now (item_at self.entry.sheet.bytes.now self.entry.number) }
     {
         let record = self.record();
-        style_of(part(record.bytes, record.at + 13, 8))
+        let from = record.at + 13;
+        style_of(&record.bytes[from..from + 8])
     }
 
     // How the item's lines are set.

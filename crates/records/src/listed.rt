@@ -1,5 +1,5 @@
-// A font and an item of an accepted sheet, by their numbers. They are two types, and not one over a marker: that would need a trait with the two facts
-// here and the two counts of `font` and `item`, and take more lines than it saves.
+// A font and an item of an accepted sheet, by their numbers. They are two types: one over a marker would need a trait of the count, the fact and the call's code,
+// with their laws, to spare one each of `font` and `item` in lib.rt and of `font_code` and `item_code` in `calls`, whose bodies have four lines at most.
 ghost use Rattle.sheet.specs.Requires.{FontListed, ItemListed};
 
 use sheet::Sheet;

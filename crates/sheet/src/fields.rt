@@ -2,7 +2,7 @@
 ghost use Rattle.std.specs.Prelude.{◌≡◌, ◌+◌, ◌^◌, ◌≤◌, ◌<◌, ◌↔◌, length, IsSome, IfSome};
 ghost use Rattle.sheet.specs.Fields.{byte_at, le16_at, le32_at, part, frame_width, frame_height, paper, font_count, item_count, font_at, item_at};
 
-// The number that the byte at `at` stores.
+// The number that the byte at `at` stores. An offset counts from the file's first byte, here and below, as docs/SHEET.md and the definitions have it.
 pub fn u8_at(bytes: &[u8], at: usize) -> u32
     requires { at < length bytes.now }
     ensures { (result ≡ byte_at bytes.now at) × (result < 2 ^ 8) }
@@ -10,7 +10,7 @@ pub fn u8_at(bytes: &[u8], at: usize) -> u32
     u32::from(bytes[at])
 }
 
-// The number that the two bytes from `at` on store.
+// The number that the two bytes from `at` on store. One function for this and the next would need a trait over u16 and u32: `from_le_bytes` is each type's own.
 #[tactic(auto, unfolding(crate::specs::Fields::le16_at))]
 pub fn u16_at(bytes: &[u8], at: usize) -> usize
     requires { at + 2 ≤ length bytes.now }
@@ -44,7 +44,7 @@ pub fn font_offset(n: u32) -> usize
     24 + 28 * n as usize
 }
 
-// A font's or an item's record of 28 bytes: the file, in which the definitions place each field, and where the record stands in it.
+// A font's or an item's record of 28 bytes: the file and where the record stands, since a definition names a field by the file and an offset in it.
 #[derive(Clone, Copy, Debug, PartialEq, Eq)]
 pub struct Record<'a> {
     pub bytes: &'a [u8],

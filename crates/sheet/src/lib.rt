@@ -85,7 +85,8 @@ fn check_font(font: Record<'_>) -> Result<(), Refusal>
     mapping::check_mapping(part(font.bytes, from, size))
 }
 
-// Refusals 6 to 8 of the fonts, by number.
+// Refusals 6 to 8 of the fonts, by number. One loop for this and `check_items` would take a closure that says again what `check_font` or `check_item` asks and
+// gives: more than the three lines of a loop.
 fn check_fonts(header: Header<'_>) -> Result<(), Refusal>
     requires { LaidOut header.bytes.now }
     ensures { refusal_of result ≡ check_fonts header.entry.bytes.now }

@@ -15,7 +15,8 @@ struct Records<'a> {
     ghost within: { RecordsIn header.bytes.now },
 }
 
-// Where the fonts' pieces end, if the first starts at `from` and each other where the one before ends.
+// Where the fonts' pieces end, if the first starts at `from` and each other where the one before ends. One loop for this and `slots_end` would take a closure
+// from place to place, and say of each use what the turn does here: a font has two pieces, an item one.
 fn fonts_end(records: Records<'_>, from: usize) -> Option<usize>
     ensures { result ≡ reach (pieces_of (font_pieces records.entry.header.bytes.now) (font_count records.entry.header.bytes.now) 0) from }
 {
