@@ -30,6 +30,7 @@ pub fn make_list(sheet: &mut [u8], frame: &mut [u8], list: &[u8]) -> Made
     ensures sheet_after { sheet.new ≡ (singly sheet.old frame.old list.now).state.sheet }
     ensures frame_after { frame.new ≡ (singly sheet.old frame.old list.now).state.frame }
 {
+    // Counted by hand: the count is asked where the list is refused and behind the loop.
     let mut made: usize = 0;
     let mut area = Rectangle {
         left: ORIGIN,
@@ -38,7 +39,7 @@ pub fn make_list(sheet: &mut [u8], frame: &mut [u8], list: &[u8]) -> Made
         height: 0,
     };
     for entry in Entries::of(list) {
-        let repainted = match change(sheet, entry.item, entry.edit) {
+        let repainted = match change(sheet, entry) {
             Ok(repainted) => repainted,
             Err(refusal) => {
                 return Made {

@@ -1,6 +1,6 @@
 -- What the functions that make replies cite: a refused call's reply, and what a good one's requires. Assumes nothing.
 -- Serves contracts: nothing here has to be believed.
-use Rattle.std.specs.Prelude.{ℕ, ◌^◌, ◌<◌, pos, Option, None, Some}
+use Rattle.std.specs.Prelude.{ℕ, ◌^◌, ◌<◌, pos, Option, None, Some, Result, Ok, Err}
 use Rattle.refusals.specs.declared.Refusal.{Refusal}
 use Rattle.refusals.specs.Numbers.{number}
 use Rattle.geometry.specs.declared.Point.{Point}
@@ -10,6 +10,7 @@ use Rattle.calls.specs.declared.Glyph.{Glyph}
 use Rattle.calls.specs.declared.Position.{Position}
 use Rattle.calls.specs.declared.Drawn.{Drawn}
 use Rattle.calls.specs.declared.Box.{Box}
+use Rattle.calls.specs.Calls.{box_reply}
 
 -- "A refused one returns its number with zeros"
 
@@ -42,3 +43,8 @@ pub record CornerFits (a : Rectangle) : Type 0 where
 abbrev pub code_of : Option Refusal → ℕ
 code_of None = 0
 code_of (Some r) = number r
+
+-- the reply of an edit that may be refused
+abbrev pub reply_of : Result Rectangle Refusal → Box
+reply_of (Ok a) = box_reply 0 a
+reply_of (Err r) = refused_box (number r)

@@ -3,12 +3,17 @@ ghost use Rattle.std.specs.Prelude.{◌≡◌, ◌≤◌, true, length, IfOk};
 ghost use Rattle.refusals.specs.Numbers.{refusal_of};
 ghost use Rattle.entries.specs.Entries.{is_filled};
 ghost use Rattle.drawing.specs.Frames.{Framed};
+ghost use Rattle.sheet.specs.Fields.{frame_width, frame_height};
 ghost use Rattle.calls.specs.Calls.{netpbm, font_code, item_code, draw_code, draw_item_code, whitespace_code, edit_list_code, page_code};
 
+use geometry::Size;
 use page::page_length;
 use records::{FontRecord, ItemRecord};
 use refusals::Refusal;
 use sheet::Sheet;
+
+// `font_code` and `item_code` are two, as `records::font` and `item` are: one generic over both pairs would need a trait of a method with the clause on its number
+// and bytes and two impls, beside four lines of code here and six there.
 
 // The check, then 12 for a font.
 #[tactic(auto, using(characters::proofs::Refusals::chain), unfolding(crate::specs::Calls::font_code))]
@@ -32,6 +37,20 @@ pub fn item_code(sheet: &[u8], n: u32) -> Result<ItemRecord<'_>, Refusal>
     records::item(accepted, n).ok_or(Refusal::NoSuch)
 }
 
+// The size of the sheet's frame.
+pub fn frame_size(sheet: Sheet<'_>) -> Size
+    ensures width_value { result.width ≡ frame_width sheet.entry.bytes.now }
+    ensures height_value { result.height ≡ frame_height sheet.entry.bytes.now }
+{
+    let header = sheet.header();
+    Size {
+        width: header.frame_width(),
+        height: header.frame_height(),
+    }
+}
+
+// `Framed` is ensured here and below, and no type holds it, for the reason that stands in crate drawing.
+
 // The check, then 11.
 #[tactic(auto, using(characters::proofs::Refusals::chain), unfolding(crate::specs::Calls::draw_code))]
 pub fn frame_code<'a>(sheet: &'a [u8], frame: &[u8]) -> Result<Sheet<'a>, Refusal>
@@ -40,10 +59,8 @@ pub fn frame_code<'a>(sheet: &'a [u8], frame: &[u8]) -> Result<Sheet<'a>, Refusa
     ensures framed { IfOk result (λ accepted. Framed accepted.bytes.now frame.now) }
 {
     let accepted = sheet::accepted(sheet)?;
-    let header = accepted.header();
-    let w = header.frame_width() as usize;
-    let h = header.frame_height() as usize;
-    if frame.len() != w * h {
+    let size = frame_size(accepted);
+    if frame.len() != size.width as usize * size.height as usize {
         return Err(Refusal::FrameLength);
     }
     Ok(accepted)
@@ -91,10 +108,7 @@ pub fn page_code<'a>(sheet: &'a [u8], frame: &[u8], output: &[u8]) -> Result<She
     ensures page_in { IfOk result (λ accepted. length (netpbm accepted.bytes.now frame.now) ≤ length output.now) }
 {
     let accepted = frame_code(sheet, frame)?;
-    let header = accepted.header();
-    let w = header.frame_width() as usize;
-    let h = header.frame_height() as usize;
-    let length = page_length(frame, w, h);
+    let length = page_length(frame, frame_size(accepted));
     if length <= output.len() {
         return Ok(accepted);
     }

@@ -82,6 +82,8 @@ pub fn signed(x: u32) -> i32
     x as i32 - ORIGIN as i32
 }
 
+// `PointFits` and `CornerFits` stay clauses: the numbers of a point and of a rectangle are public, and one far off the frame is as good elsewhere.
+
 // The reply of a good call that gives a position.
 pub fn position_reply(p: Point) -> Position
     requires { PointFits p }

@@ -10,17 +10,17 @@ use drawing::damage::damage;
 use geometry::Rectangle;
 use refusals::Refusal;
 use sheet::Sheet;
-use sheet::edit::Edit;
+use sheet::edit::Entry;
 
 // Edits an item; gives the damage rectangle.
-pub fn change(sheet: &mut [u8], item: u32, edit: Edit<'_>) -> Result<Rectangle, Refusal>
+pub fn change(sheet: &mut [u8], asked: Entry<'_>) -> Result<Rectangle, Refusal>
     requires { Accepted sheet.old }
-    ensures value { change_of result ≡ outcome sheet.old (of_item item edit.entry) }
-    ensures sheet_after { sheet.new ≡ sheet_after sheet.old (of_item item edit.entry) }
+    ensures value { change_of result ≡ outcome sheet.old (of_item asked.entry.item asked.entry.edit) }
+    ensures sheet_after { sheet.new ≡ sheet_after sheet.old (of_item asked.entry.item asked.entry.edit) }
 {
     let before = Sheet { bytes: &sheet[..] };
-    edits::refusal(before, item, edit)?;
-    let area = damage(before, item, edit);
-    edits::put(sheet, item, edit);
+    edits::refusal(before, asked)?;
+    let area = damage(before, asked);
+    edits::put(sheet, asked);
     Ok(area)
 }

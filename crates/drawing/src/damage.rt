@@ -11,8 +11,10 @@ use super::frame_of;
 use geometry::{ORIGIN, Point, Rectangle};
 use records::ItemRecord;
 use sheet::Sheet;
-use sheet::edit::Edit;
+use sheet::edit::{Edit, Entry};
 use text::TextLayout;
+
+// `EndsFit` stays a clause, as in crate geometry: the four numbers of a rectangle are public.
 
 // What two boxes repaint: the smallest rectangle that holds those that are not empty, cut to the frame.
 #[tactic(auto, using(crate::proofs::Changes::cut_none, crate::proofs::Changes::cut_some))]
@@ -34,6 +36,8 @@ fn damage_of(sheet: Sheet<'_>, before: Rectangle, after: Rectangle) -> Rectangle
     }
     area
 }
+
+// `EditAllowed` stays a clause here and below, for the reason that stands at `edits::put`.
 
 // The ink box of an item after an edit: the lines of a new text are parts of it, those of the stored text are parts of the sheet.
 fn ink_after<'a>(item: ItemRecord<'a>, edit: Edit<'a>) -> Rectangle
@@ -71,12 +75,15 @@ fn ink_after<'a>(item: ItemRecord<'a>, edit: Edit<'a>) -> Rectangle
 }
 
 // The damage rectangle of an edit.
-pub fn damage<'a>(sheet: Sheet<'a>, n: u32, edit: Edit<'a>) -> Rectangle
-    requires { EditAllowed sheet.bytes.now (of_item n edit) }
-    ensures { result ≡ damage sheet.entry.bytes.now (edited sheet.entry.bytes.now (of_item n edit.entry)) n }
+pub fn damage<'a>(sheet: Sheet<'a>, asked: Entry<'a>) -> Rectangle
+    requires { EditAllowed sheet.bytes.now (of_item asked.item asked.edit) }
+    ensures { result ≡ damage sheet.entry.bytes.now (edited sheet.entry.bytes.now (of_item asked.entry.item asked.entry.edit)) asked.entry.item }
 {
-    let item = ItemRecord { sheet, number: n };
+    let item = ItemRecord {
+        sheet,
+        number: asked.item,
+    };
     let before = item.layout().ink_box();
-    let after = ink_after(item, edit);
+    let after = ink_after(item, asked.edit);
     damage_of(sheet, before, after)
 }

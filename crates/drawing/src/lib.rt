@@ -45,6 +45,9 @@ fn target_of(sheet: Sheet<'_>, clip: Rectangle) -> DrawTarget
     }
 }
 
+// `Framed` stays a clause here and below, as in `calls::codes`: a code has the frame lent for reading and what draws has it for writing, beside a sheet or beside an
+// item, so that a type of them would be made anew for each call.
+
 // The greys of a frame of the sheet's size, all of which may change.
 #[tactic(auto, using(crate::proofs::Painting::framed_canvas))]
 fn whole_frame<'a>(sheet: Sheet<'_>, greys: &'a mut [u8]) -> Frame<'a>
@@ -92,8 +95,6 @@ pub fn repaint(sheet: Sheet<'_>, frame: &mut [u8], area: Rectangle)
     draw_items(sheet, &mut frame);
 }
 
-// `Framed` stays a clause here and below: it ties a sheet to the frame that is lent with it.
-
 // Draws the page on a frame of the sheet's size.
 #[tactic(auto, using(crate::proofs::Painting::framed_canvas, crate::proofs::Painting::fresh_painted))]
 pub fn draw(sheet: Sheet<'_>, frame: &mut [u8])
@@ -115,6 +116,8 @@ pub fn draw_item(item: ItemRecord<'_>, frame: &mut [u8]) -> DrawnText
     let mut frame = whole_frame(item.sheet, frame);
     item.to_text().draw(&mut frame)
 }
+
+// `width ≤ 65,535` stays a clause: it is of a host's number, which `calls::codes` tests once and no value holds.
 
 // Draws whitespace of a width at an item's place in a frame's clip; gives the next position.
 fn draw_whitespace_in(item: ItemRecord<'_>, frame: &mut Frame, width: u32) -> Point

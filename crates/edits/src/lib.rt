@@ -13,7 +13,7 @@ use geometry::{ORIGIN, copy_bytes, store_bytes};
 use limits::good_modes;
 use refusals::Refusal;
 use sheet::Sheet;
-use sheet::edit::Edit;
+use sheet::edit::{Edit, Entry};
 use sheet::fields::{Header, u16_at, u32_at};
 
 // Whether a number is one of −32,768 to 32,767.
@@ -26,16 +26,16 @@ fn in_range(z: i32) -> bool
 
 // Refusals 12 to 16 of an edit of an item.
 #[tactic(auto, using(characters::proofs::Tests::tests), unfolding(sheet::specs::Edits::text_refusal, sheet::specs::Edits::place_refusal, sheet::specs::Edits::style_refusal))]
-pub fn refusal(sheet: Sheet<'_>, item: u32, edit: Edit<'_>) -> Result<(), Refusal>
-    ensures { refusal_of result ≡ refusal sheet.entry.bytes.now (of_item item edit.entry) }
+pub fn refusal(sheet: Sheet<'_>, asked: Entry<'_>) -> Result<(), Refusal>
+    ensures { refusal_of result ≡ refusal sheet.entry.bytes.now (of_item asked.entry.item asked.entry.edit) }
 {
     let header = sheet.header();
-    if header.item_count() <= item {
+    if header.item_count() <= asked.item {
         return Err(Refusal::NoSuch);
     }
-    match edit {
+    match asked.edit {
         Edit::Text(text) => {
-            let size = u16_at(sheet.bytes, header.item_offset(item) + 8);
+            let size = u16_at(sheet.bytes, header.item_offset(asked.item) + 8);
             if size < text.len() {
                 return Err(Refusal::NewTextTooLong);
             }
@@ -104,14 +104,17 @@ fn put_style(sheet: &mut [u8], o: usize, style: &[u8])
     store_bytes(sheet, o + 13, style);
 }
 
+// `EditAllowed` stays a clause, here and in `drawing::damage`: it is of the bytes that `damage` reads and `put` writes, so a value that held it would have to
+// lend them both ways, or be tied to them by a clause of its own.
+
 // Makes an edit of an item.
-pub fn put(sheet: &mut [u8], item: u32, edit: Edit<'_>)
-    requires { EditAllowed sheet.old (of_item item edit) }
-    ensures { sheet.new ≡ edited sheet.old (of_item item edit.entry) }
+pub fn put(sheet: &mut [u8], asked: Entry<'_>)
+    requires { EditAllowed sheet.old (of_item asked.item asked.edit) }
+    ensures { sheet.new ≡ edited sheet.old (of_item asked.entry.item asked.entry.edit) }
 {
     let header = Header { bytes: &sheet[..] };
-    let o = header.item_offset(item);
-    match edit {
+    let o = header.item_offset(asked.item);
+    match asked.edit {
         Edit::Text(text) => put_text(sheet, o, text),
         Edit::Place(x, y) => put_place(sheet, o, biased(x), biased(y)),
         Edit::Style(style) => put_style(sheet, o, style),

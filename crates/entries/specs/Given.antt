@@ -7,7 +7,7 @@ use Rattle.sheet.specs.Edits.{Edit, new_text, new_place, new_style}
 use Rattle.sheet.specs.OfItem.{of_item}
 use Rattle.entries.specs.Entries.{behind, signed_of, edit_of, is_entry}
 use Rattle.entries.specs.declared.Entries.{Entries}
-use Rattle.entries.specs.declared.Entry.{Entry}
+use Rattle.sheet.specs.declared.edit.Entry.{Entry}
 
 -- the edit of a kind, by its item and its data
 unfoldable pub edit_by : ℕ → ℕ → List ℕ → Edit

@@ -10,13 +10,9 @@ ghost use Rattle.entries.specs.Entries.{signed_of, is_known, is_filled};
 ghost use Rattle.entries.specs.Given.{edit_by, GivesEntry};
 
 use sheet::edit::Edit;
+pub use sheet::edit::Entry;
 
-// An edit, and the number of its item.
-#[derive(Clone, Copy, Debug, PartialEq, Eq)]
-pub struct Entry<'a> {
-    pub item: u32,
-    pub edit: Edit<'a>,
-}
+// An offset, and no rest: by two `split_first_chunk` a place takes a test of its own that nothing is left behind, where it is one line below.
 
 // The signed number that the four bytes from `at` on store.
 fn i32_at(list: &[u8], at: usize) -> i32

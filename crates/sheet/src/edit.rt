@@ -7,3 +7,10 @@ pub enum Edit<'a> {
     Place(i32, i32),
     Style(&'a [u8]),
 }
+
+// An edit, and the number of its item.
+#[derive(Clone, Copy, Debug, PartialEq, Eq)]
+pub struct Entry<'a> {
+    pub item: u32,
+    pub edit: Edit<'a>,
+}

@@ -3,7 +3,8 @@ use Prim.Native.Nat.{ℕ}
 use mathlib.Core.Path.{◌≡◌, refl, sym, ap, ◌∙◌}
 use mathlib.Core.List.{List, []}
 use lib.ListN.{length}
-use Rattle.std.specs.Prelude.{Ok, Err}
+use Rattle.std.specs.Prelude.{Result, Ok, Err}
+use Rattle.std.specs.Result.{IsErrAnd, IfOk}
 use Rattle.refusals.specs.declared.Refusal.{Refusal}
 use Rattle.refusals.specs.Numbers.{number}
 use Rattle.refusals.proofs.Numbers.{not_zero}
@@ -20,7 +21,7 @@ use Rattle.changes.specs.Change.{Change, change_of, Checked, area_of, outcome, s
 use Rattle.calls.specs.declared.Box.{Box}
 use Rattle.calls.specs.declared.Batch.{Batch}
 use Rattle.calls.specs.Calls.{box_reply, draw_code, edit_code, edit_reply, edit_sheet, edit_frame, singly, zeros, batch, batch_of, edit_list_code, edit_list_reply, on_sheet_code, on_sheet_reply, on_sheet_sheet}
-use Rattle.calls.specs.Replies.{CornerFits, refused_box}
+use Rattle.calls.specs.Replies.{CornerFits, reply_of}
 use Rattle.calls.proofs.Refusals.{draw_code_is, draw_framed, edit_code_is, edit_list_code_is, on_sheet_code_is}
 use Rattle.batch.specs.declared.Made.{Made}
 use Rattle.batch.specs.Made.{made_batch}
@@ -28,6 +29,11 @@ use Rattle.batch.proofs.Steps.{edit_sheet_lem, edit_frame_lem, edit_reply_lem, n
 use Rattle.station.proofs.Calls.{kept, done, box_refused}
 
 -- ---- an edit's outcome
+
+-- the reply of a refusal that is handed on
+handed_on : (r : Result Rectangle Refusal) (d : Refusal) → IsErrAnd r (λ x. x ≡ d) → reply_of r ≡ reply_of (Err d)
+handed_on (Ok a) d h = absurd h
+handed_on (Err x) d h = ap (λ (y : Refusal). reply_of (Err y)) h
 
 module _ (b : List ℕ) (e : Edit) where
   -- the number of the refusal that it came to
@@ -54,9 +60,9 @@ module _ (b frame : List ℕ) (e : Edit) where
     code-refused : number d ≡ edit_code b frame e
     code-refused = rw (edit_code_is b frame e) (or_else_refused (draw_code b frame) (refusal b e) d q)
 
-    pub edit_refused : (r : Box) → r ≡ refused_box (number d) → r ≡ edit_reply b frame e
+    pub edit_refused : (r : Result Rectangle Refusal) → IsErrAnd r (λ x. x ≡ d) → reply_of r ≡ edit_reply b frame e
     unfolding edit_reply
-    edit_refused r p = box_refused d (edit_code b frame e) code-refused r _ p
+    edit_refused r h = handed_on r d h ∙ box_refused d (edit_code b frame e) code-refused _ _ refl
 
     pub edit_sheet_kept : b ≡ edit_sheet b frame e
     unfolding edit_sheet
@@ -75,8 +81,8 @@ module _ (b frame : List ℕ) (e : Edit) where
 
     -- by the edit itself
     module _ (d : Refusal) (eo : change_of (Err d) ≡ outcome b e) where
-      pub edit_told : (r : Box) → r ≡ refused_box (number d) → r ≡ edit_reply b frame e
-      edit_told r p = box_refused d (refusal b e) (told b e d eo) r (area_of b e) p ∙ sym (edit_reply_lem b frame e checked_zero)
+      pub edit_told : (r : Result Rectangle Refusal) → IsErrAnd r (λ x. x ≡ d) → reply_of r ≡ edit_reply b frame e
+      edit_told r h = handed_on r d h ∙ box_refused d (refusal b e) (told b e d eo) _ (area_of b e) refl ∙ sym (edit_reply_lem b frame e checked_zero)
 
       pub edit_frame_told : frame ≡ edit_frame b frame e
       edit_frame_told = frame_kept b frame e _ eo (not_zero d) ∙ sym (edit_frame_lem b frame e checked_zero)
@@ -86,8 +92,8 @@ module _ (b frame : List ℕ) (e : Edit) where
       pub edit_corner : CornerFits a
       edit_corner = corner b e a eo (accepted b checked_zero.accepted)
 
-      pub edit_replied : (r : Box) → r ≡ box_reply 0 a → r ≡ edit_reply b frame e
-      edit_replied r p = replied b e a eo r p ∙ sym (edit_reply_lem b frame e checked_zero)
+      pub edit_replied : box_reply 0 a ≡ edit_reply b frame e
+      edit_replied = replied b e a eo _ refl ∙ sym (edit_reply_lem b frame e checked_zero)
 
       module _ (s : List ℕ) (es : s ≡ sheet_after b e) where
         pub edit_accepted : Accepted s
@@ -106,9 +112,9 @@ module _ (b : List ℕ) (e : Edit) where
     on-sheet-refused : number d ≡ on_sheet_code b e
     on-sheet-refused = rw (on_sheet_code_is b e) (or_else_refused (check b) (refusal b e) d q)
 
-    pub on_sheet_refused : (r : Box) → r ≡ refused_box (number d) → r ≡ on_sheet_reply b e
+    pub on_sheet_refused : (r : Result Rectangle Refusal) → IsErrAnd r (λ x. x ≡ d) → reply_of r ≡ on_sheet_reply b e
     unfolding on_sheet_reply
-    on_sheet_refused r p = box_refused d (on_sheet_code b e) on-sheet-refused r _ p
+    on_sheet_refused r h = handed_on r d h ∙ box_refused d (on_sheet_code b e) on-sheet-refused _ _ refl
 
     pub on_sheet_kept : b ≡ on_sheet_sheet b e
     unfolding on_sheet_sheet
@@ -125,17 +131,14 @@ module _ (b : List ℕ) (e : Edit) where
     unfolding on_sheet_sheet sheet_after
     on_sheet_left s p = p ∙ rw code-is
 
-    pub on_sheet_told : (d : Refusal) → change_of (Err d) ≡ outcome b e → (r : Box) → r ≡ refused_box (number d) → r ≡ on_sheet_reply b e
+    pub on_sheet_replied : (r : Result Rectangle Refusal) → change_of r ≡ outcome b e → reply_of r ≡ on_sheet_reply b e
     unfolding on_sheet_reply
-    on_sheet_told d eo r p = box_refused d (on_sheet_code b e) (told b e d eo ∙ sym code-is) r _ p
+    on_sheet_replied (Ok a) eo = rw code-is (replied b e a eo _ refl)
+    on_sheet_replied (Err d) eo = box_refused d (on_sheet_code b e) (told b e d eo ∙ sym code-is) _ _ refl
 
-    module _ (a : Rectangle) (eo : change_of (Ok a) ≡ outcome b e) where
-      pub on_sheet_corner : CornerFits a
-      on_sheet_corner = corner b e a eo on_sheet_accepted
-
-      pub on_sheet_replied : (r : Box) → r ≡ box_reply 0 a → r ≡ on_sheet_reply b e
-      unfolding on_sheet_reply
-      on_sheet_replied r p = rw code-is (replied b e a eo r p)
+    pub on_sheet_corner : (r : Result Rectangle Refusal) → change_of r ≡ outcome b e → IfOk r CornerFits
+    on_sheet_corner (Ok a) eo = corner b e a eo on_sheet_accepted
+    on_sheet_corner (Err d) eo = tt
 
 -- ---- a list of edits
 

@@ -2,17 +2,19 @@
 // number for a code and zeros, and leaves sheet, frame and output as they were. A list of edits that stops at a refused one keeps those before it.
 #![tactic(auto)]
 
-ghost use Rattle.std.specs.Prelude.{◌≡◌, length};
+ghost use Rattle.std.specs.Prelude.{◌≡◌, length, IfOk};
 ghost use Rattle.sheet.specs.Check.{check};
 ghost use Rattle.sheet.specs.Edits.{new_text, new_place, new_style};
 ghost use Rattle.sheet.specs.OfItem.{of_item};
 ghost use Rattle.bdf.specs.Font.{written};
 ghost use Rattle.calls.specs.Calls.{index_reply, contains_reply, bounding_box_reply, draw_item_reply, draw_item_frame, whitespace_reply, whitespace_frame, draw_code, draw_frame, edit_reply, edit_sheet, edit_frame, edit_list_reply, edit_list_sheet, edit_list_frame, on_sheet_reply, on_sheet_sheet, page_reply, page_output, read_bdf_reply, walk_reply};
+ghost use Rattle.calls.specs.Replies.{reply_of, CornerFits};
 
 use batch::make_list;
 use calls::batches::batch_reply;
 use calls::codes::{
-    draw_item_code, font_code, frame_code, item_code, list_code, page_code, whitespace_code,
+    draw_item_code, font_code, frame_code, frame_size, item_code, list_code, page_code,
+    whitespace_code,
 };
 use calls::replies::{box_reply, drawn_reply, position_reply};
 pub use calls::{Batch, Box, Drawn, Glyph, Number, Position, Step};
@@ -20,10 +22,11 @@ use changes::change;
 use characters::Step as Walked;
 use characters::walker::walk_from;
 use drawing::repaint;
+use geometry::Rectangle;
 use page::write_page;
 use refusals::Refusal;
 use sheet::Sheet;
-use sheet::edit::Edit;
+use sheet::edit::{Edit, Entry};
 
 // The number of the sheet's first refusal, or 0 for a sheet that is accepted.
 pub fn station_check(sheet: &[u8]) -> u32
@@ -119,22 +122,28 @@ pub fn station_draw(sheet: &[u8], frame: &mut [u8]) -> u32
     }
 }
 
-// Edits an item, and repaints its damage rectangle, which it gives.
-fn edited(sheet: &mut [u8], frame: &mut [u8], item: u32, edit: Edit<'_>) -> Box
-    ensures value { result ≡ edit_reply sheet.old frame.old (of_item item edit.entry) }
-    ensures sheet_after { sheet.new ≡ edit_sheet sheet.old frame.old (of_item item edit.entry) }
-    ensures frame_after { frame.new ≡ edit_frame sheet.old frame.old (of_item item edit.entry) }
+// The reply of an edit that may be refused.
+fn reply(made: Result<Rectangle, Refusal>) -> Box
+    requires { IfOk made CornerFits }
+    ensures { result ≡ reply_of made }
 {
-    if let Err(refusal) = frame_code(&sheet[..], &frame[..]) {
-        return Box::from(refusal);
-    }
-    match change(sheet, item, edit) {
+    match made {
+        Ok(area) => box_reply(area),
         Err(refusal) => Box::from(refusal),
-        Ok(area) => {
-            repaint(Sheet { bytes: &sheet[..] }, frame, area);
-            box_reply(area)
-        }
     }
+}
+
+// Edits an item, and repaints its damage rectangle, which it gives.
+fn edited(sheet: &mut [u8], frame: &mut [u8], asked: Entry<'_>) -> Result<Rectangle, Refusal>
+    ensures value { reply_of result ≡ edit_reply sheet.old frame.old (of_item asked.entry.item asked.entry.edit) }
+    ensures corner_fits { IfOk result CornerFits }
+    ensures sheet_after { sheet.new ≡ edit_sheet sheet.old frame.old (of_item asked.entry.item asked.entry.edit) }
+    ensures frame_after { frame.new ≡ edit_frame sheet.old frame.old (of_item asked.entry.item asked.entry.edit) }
+{
+    frame_code(&sheet[..], &frame[..])?;
+    let area = change(sheet, asked)?;
+    repaint(Sheet { bytes: &sheet[..] }, frame, area);
+    Ok(area)
 }
 
 // Gives an item a new text, and repaints its damage rectangle, which it gives.
@@ -143,7 +152,8 @@ pub fn station_set_text(sheet: &mut [u8], frame: &mut [u8], item: u32, text: &[u
     ensures sheet_after { sheet.new ≡ edit_sheet sheet.old frame.old (new_text item text.now) }
     ensures frame_after { frame.new ≡ edit_frame sheet.old frame.old (new_text item text.now) }
 {
-    edited(sheet, frame, item, Edit::Text(text))
+    let text = Edit::Text(text);
+    reply(edited(sheet, frame, Entry { item, edit: text }))
 }
 
 // Gives an item a new place, and repaints its damage rectangle, which it gives.
@@ -152,7 +162,8 @@ pub fn station_set_place(sheet: &mut [u8], frame: &mut [u8], item: u32, x: i32, 
     ensures sheet_after { sheet.new ≡ edit_sheet sheet.old frame.old (new_place item x y) }
     ensures frame_after { frame.new ≡ edit_frame sheet.old frame.old (new_place item x y) }
 {
-    edited(sheet, frame, item, Edit::Place(x, y))
+    let place = Edit::Place(x, y);
+    reply(edited(sheet, frame, Entry { item, edit: place }))
 }
 
 // Gives an item a new style, and repaints its damage rectangle, which it gives.
@@ -161,7 +172,8 @@ pub fn station_set_style(sheet: &mut [u8], frame: &mut [u8], item: u32, style: &
     ensures sheet_after { sheet.new ≡ edit_sheet sheet.old frame.old (new_style item style.now) }
     ensures frame_after { frame.new ≡ edit_frame sheet.old frame.old (new_style item style.now) }
 {
-    edited(sheet, frame, item, Edit::Style(style))
+    let style = Edit::Style(style);
+    reply(edited(sheet, frame, Entry { item, edit: style }))
 }
 
 // Makes a list of edits in order, up to the first that is refused; gives how many were made, and the smallest rectangle that holds those that they
@@ -171,25 +183,23 @@ pub fn station_edit_list(sheet: &mut [u8], frame: &mut [u8], list: &[u8]) -> Bat
     ensures sheet_after { sheet.new ≡ edit_list_sheet sheet.old frame.old list.now }
     ensures frame_after { frame.new ≡ edit_list_frame sheet.old frame.old list.now }
 {
-    if let Err(refusal) = list_code(&sheet[..], &frame[..], list) {
-        return Batch::from(refusal);
+    match list_code(&sheet[..], &frame[..], list) {
+        Err(refusal) => Batch::from(refusal),
+        Ok(_) => {
+            let made = make_list(sheet, frame, list);
+            batch_reply(made.refused, made.made, made.area)
+        }
     }
-    let made = make_list(sheet, frame, list);
-    batch_reply(made.refused, made.made, made.area)
 }
 
 // Edits an item on the sheet alone; gives the damage rectangle.
-fn edited_on_sheet(sheet: &mut [u8], item: u32, edit: Edit<'_>) -> Box
-    ensures value { result ≡ on_sheet_reply sheet.old (of_item item edit.entry) }
-    ensures sheet_after { sheet.new ≡ on_sheet_sheet sheet.old (of_item item edit.entry) }
+fn edited_on_sheet(sheet: &mut [u8], asked: Entry<'_>) -> Result<Rectangle, Refusal>
+    ensures value { reply_of result ≡ on_sheet_reply sheet.old (of_item asked.entry.item asked.entry.edit) }
+    ensures corner_fits { IfOk result CornerFits }
+    ensures sheet_after { sheet.new ≡ on_sheet_sheet sheet.old (of_item asked.entry.item asked.entry.edit) }
 {
-    if let Err(refusal) = sheet::check(&sheet[..]) {
-        return Box::from(refusal);
-    }
-    match change(sheet, item, edit) {
-        Err(refusal) => Box::from(refusal),
-        Ok(area) => box_reply(area),
-    }
+    sheet::check(&sheet[..])?;
+    change(sheet, asked)
 }
 
 // Gives an item a new text on the sheet alone; gives the damage rectangle.
@@ -197,7 +207,8 @@ pub fn station_set_text_on_sheet(sheet: &mut [u8], item: u32, text: &[u8]) -> Bo
     ensures value { result ≡ on_sheet_reply sheet.old (new_text item text.now) }
     ensures sheet_after { sheet.new ≡ on_sheet_sheet sheet.old (new_text item text.now) }
 {
-    edited_on_sheet(sheet, item, Edit::Text(text))
+    let text = Edit::Text(text);
+    reply(edited_on_sheet(sheet, Entry { item, edit: text }))
 }
 
 // Gives an item a new place on the sheet alone; gives the damage rectangle.
@@ -205,7 +216,8 @@ pub fn station_set_place_on_sheet(sheet: &mut [u8], item: u32, x: i32, y: i32) -
     ensures value { result ≡ on_sheet_reply sheet.old (new_place item x y) }
     ensures sheet_after { sheet.new ≡ on_sheet_sheet sheet.old (new_place item x y) }
 {
-    edited_on_sheet(sheet, item, Edit::Place(x, y))
+    let place = Edit::Place(x, y);
+    reply(edited_on_sheet(sheet, Entry { item, edit: place }))
 }
 
 // Gives an item a new style on the sheet alone; gives the damage rectangle.
@@ -213,7 +225,8 @@ pub fn station_set_style_on_sheet(sheet: &mut [u8], item: u32, style: &[u8]) -> 
     ensures value { result ≡ on_sheet_reply sheet.old (new_style item style.now) }
     ensures sheet_after { sheet.new ≡ on_sheet_sheet sheet.old (new_style item style.now) }
 {
-    edited_on_sheet(sheet, item, Edit::Style(style))
+    let style = Edit::Style(style);
+    reply(edited_on_sheet(sheet, Entry { item, edit: style }))
 }
 
 // The frame as a Netpbm file, stored at the head of the output, and its length.
@@ -224,10 +237,7 @@ pub fn station_write_page(sheet: &[u8], frame: &[u8], output: &mut [u8]) -> Numb
     match page_code(sheet, frame, &output[..]) {
         Err(refusal) => Number::from(refusal),
         Ok(sheet) => {
-            let header = sheet.header();
-            let w = header.frame_width() as usize;
-            let h = header.frame_height() as usize;
-            let length = write_page(output, frame, w, h);
+            let length = write_page(output, frame, frame_size(sheet));
             Number {
                 code: 0,
                 value: length as u32,

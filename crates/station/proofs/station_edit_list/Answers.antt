@@ -16,15 +16,15 @@ unfolding edit_list_sheet edit_list_frame
 returns-in-Err-clause-frame_after c = kept _ _ c.in-Err.ensures.value _ _
 
 pub make_list-made-requires : goal.make_list-made-requires
-make_list-made-requires c = list_checked _ _ _ c.in_default.ensures.value
+make_list-made-requires c = list_checked _ _ _ c.in-Ok.ensures.value
 
-pub returns-clause-value : goal.returns-clause-value
-returns-clause-value c = list_replied _ _ _ c.in_default.ensures.value _ _ c.batch_reply.ensures c.make_list-made.ensures.result_value
+pub returns-in-Ok-clause-value : goal.returns-in-Ok-clause-value
+returns-in-Ok-clause-value c = list_replied _ _ _ c.in-Ok.ensures.value _ _ c.batch_reply.ensures c.make_list-made.ensures.result_value
 
-pub returns-clause-sheet_after : goal.returns-clause-sheet_after
+pub returns-in-Ok-clause-sheet_after : goal.returns-in-Ok-clause-sheet_after
 unfolding edit_list_sheet edit_list_frame
-returns-clause-sheet_after c = done _ c.in_default.ensures.value _ _ _ c.make_list-made.ensures.sheet_after
+returns-in-Ok-clause-sheet_after c = done _ c.in-Ok.ensures.value _ _ _ c.make_list-made.ensures.sheet_after
 
-pub returns-clause-frame_after : goal.returns-clause-frame_after
+pub returns-in-Ok-clause-frame_after : goal.returns-in-Ok-clause-frame_after
 unfolding edit_list_sheet edit_list_frame
-returns-clause-frame_after c = done _ c.in_default.ensures.value _ _ _ c.make_list-made.ensures.frame_after
+returns-in-Ok-clause-frame_after c = done _ c.in-Ok.ensures.value _ _ _ c.make_list-made.ensures.frame_after
