@@ -22,6 +22,8 @@ pub struct Made {
     pub area: Rectangle,
 }
 
+// `CornerFits` is ensured, since `calls::batches` requires it: the rectangle's numbers are public, as `calls::replies` says.
+
 // Makes the edits of a list, up to the first that is refused, or to bytes that are no entry.
 pub fn make_list(sheet: &mut [u8], frame: &mut [u8], list: &[u8]) -> Made
     requires { Checked sheet.old frame.old }

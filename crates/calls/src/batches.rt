@@ -37,6 +37,8 @@ impl From<Refusal> for Batch {
     }
 }
 
+// `CornerFits` stays a clause, as in `replies`.
+
 // The reply of one that was begun: the refusal that stopped it, if one did, the number of edits made, and their rectangle.
 pub fn batch_reply(refused: Option<Refusal>, made: usize, a: Rectangle) -> Batch
     requires { CornerFits a }

@@ -12,8 +12,8 @@ use records::{FontRecord, ItemRecord};
 use refusals::Refusal;
 use sheet::Sheet;
 
-// `font_code` and `item_code` are two, as `records::font` and `item` are: one generic over both pairs would need a trait of a method with the clause on its number
-// and bytes and two impls, beside four lines of code here and six there.
+// `font_code` and `item_code` are two, as `records::font` and `item` are: one generic over both pairs needs a trait with a count, a maker and their clauses, and two
+// impls, to save the two lines of code here and the four there.
 
 // The check, then 12 for a font.
 #[tactic(auto, using(characters::proofs::Refusals::chain), unfolding(crate::specs::Calls::font_code))]
@@ -49,7 +49,7 @@ pub fn frame_size(sheet: Sheet<'_>) -> Size
     }
 }
 
-// `Framed` is ensured here and below, and no type holds it, for the reason that stands in crate drawing.
+// `Framed` is ensured here and below, and of whitespace `width ≤ 65,535`; no type holds them, for the reasons that stand in crate drawing.
 
 // The check, then 11.
 #[tactic(auto, using(characters::proofs::Refusals::chain), unfolding(crate::specs::Calls::draw_code))]

@@ -38,6 +38,9 @@ pub fn station_check(sheet: &[u8]) -> u32
     }
 }
 
+// A `match` for each refusal, and no `map` under one generic `reply`: tried at `station_draw`, where it stopped at a refused call's frame, since `map` does not tell of
+// what its closure borrows where it is not called.
+
 // The index of a character's glyph in a font, and 1 if the font's mapping lists the character, else 0.
 pub fn station_index(sheet: &[u8], font: u32, character: u32) -> Glyph
     ensures { result ≡ index_reply sheet.now font character }
