@@ -108,7 +108,8 @@ pub fn page_code<'a>(sheet: &'a [u8], frame: &[u8], output: &[u8]) -> Result<She
     ensures page_in { IfOk result (λ accepted. length (netpbm accepted.bytes.now frame.now) ≤ length output.now) }
 {
     let accepted = frame_code(sheet, frame)?;
-    let length = page_length(frame, frame_size(accepted));
+    let size = frame_size(accepted);
+    let length = page_length(frame, size.width as usize, size.height as usize);
     if length <= output.len() {
         return Ok(accepted);
     }

@@ -240,7 +240,8 @@ pub fn station_write_page(sheet: &[u8], frame: &[u8], output: &mut [u8]) -> Numb
     match page_code(sheet, frame, &output[..]) {
         Err(refusal) => Number::from(refusal),
         Ok(sheet) => {
-            let length = write_page(output, frame, frame_size(sheet));
+            let size = frame_size(sheet);
+            let length = write_page(output, frame, size.width as usize, size.height as usize);
             Number {
                 code: 0,
                 value: length as u32,

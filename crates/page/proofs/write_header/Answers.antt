@@ -10,7 +10,7 @@ returns c =
     let e₄ = c.write_digits-end.ensures in
     let e₅ = c.write_bytes.ensures in
     let s =
-    header_written c.args.size.width c.args.size.height _ _ _ _ _ _ _ _ _ _ _ (e₁.output_after, e₁.value) (e₂.output_after, e₂.value) (e₃.output_after, e₃.value)
+    header_written c.args.w c.args.h _ _ _ _ _ _ _ _ _ _ _ (e₁.output_after, e₁.value) (e₂.output_after, e₂.value) (e₃.output_after, e₃.value)
     (e₄.output_after, e₄.value)
     (e₅.output_after, e₅.value) in
     record { output_after = s.0; value = s.1 }
