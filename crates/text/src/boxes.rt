@@ -30,7 +30,7 @@ pub fn line_of<'a>(stored: &'a [u8], new: Option<&'a [u8]>, from: usize) -> &'a 
     &rest[..line_length(rest)]
 }
 
-// How many line feeds a text has. Summed as `u16`s: a count of what a `filter` leaves takes twice the instructions at 20 bytes, and edits ask it of most items.
+// How many line feeds a text has. Summed as `u16`s: a count of what a `filter` leaves takes twice the instructions at 20 bytes.
 fn feed_count(text: &[u8]) -> u32
     requires { length text.now ≤ 4_096 }
     ensures { result ≡ feed_count text.now }
