@@ -47,49 +47,49 @@ fn is_batch(bytes: &[u8]) -> bool {
     byte_at(bytes, 0) == 3
 }
 
-// How many bytes of a new text, a new style or a batch the data have behind their length.
-fn data_size(data: &[u8]) -> usize
+fn data_size(bytes: &[u8]) -> usize
     ensures { result < 65536 }
 {
-    usize::from(u16_of(data))
+    usize::from(u16_of(rest(bytes, 5)))
 }
 
 // The new text or style, or the batch.
-fn bytes_of(data: &[u8]) -> &[u8] {
-    part(data, 2, data_size(data))
-}
-
-// The edit of a kind that an item's data say.
-fn edit_of(kind: u8, item: u32, data: &[u8]) -> Edit<'_> {
-    Edit::of(
-        kind,
-        item,
-        i32_of(data),
-        i32_of(rest(data, 4)),
-        bytes_of(data),
-    )
-}
-
-// The data of an edit or a batch in the list.
 fn data_of(bytes: &[u8]) -> &[u8] {
-    rest(bytes, 5)
+    part(bytes, 7, data_size(bytes))
 }
 
 // The bytes of an edit or a batch in the list.
 fn edit_size(bytes: &[u8]) -> usize {
     match byte_at(bytes, 0) {
         1 => 13,
-        _ => 7 + data_size(data_of(bytes)),
+        _ => 7 + data_size(bytes),
     }
+}
+
+// The edit that stands in the list.
+fn edit_of(bytes: &[u8]) -> Edit<'_> {
+    let item = u32_of(rest(bytes, 1));
+    let x = i32_of(rest(bytes, 5));
+    let y = i32_of(rest(bytes, 9));
+    Edit::of(byte_at(bytes, 0), item, x, y, data_of(bytes))
 }
 
 // ---- a batch made singly on the sheet alone: its entries are a kind (1 byte), an item (1), and the data, a length (2) and the bytes; they are read
 // here, and not by crate `entries`, which is part of what is compared
 
-// The edit that an entry is.
+fn entry_data_size(entry: &[u8]) -> usize
+    ensures { result < 65536 }
+{
+    usize::from(u16_of(rest(entry, 2)))
+}
+
+// The edit that an entry is. Beside `edit_of`, since an entry's x and y stand behind a length, and those of the list do not.
 fn edit_of_entry(entry: &[u8]) -> Edit<'_> {
     let item = u32::from(byte_at(entry, 1));
-    edit_of(byte_at(entry, 0), item, rest(entry, 2))
+    let x = i32_of(rest(entry, 4));
+    let y = i32_of(rest(entry, 8));
+    let bytes = part(entry, 4, entry_data_size(entry));
+    Edit::of(byte_at(entry, 0), item, x, y, bytes)
 }
 
 // A left column or a top row; 65,536 for one that is negative or further, as `natural` has it.
@@ -130,7 +130,7 @@ fn join(a: Reply, b: Reply) -> Reply {
 // Makes the entries of a batch up to the first that is refused; the reply that theirs form.
 fn make_singly(sheet: &mut [u8], list: &[u8]) -> Reply {
     let mut batch = Reply::of_code(0);
-    for entry in Entries::of(list, |entry| 4 + data_size(rest(entry, 2))) {
+    for entry in Entries::of(list, |entry| 4 + entry_data_size(entry)) {
         let reply = Reply::from(edit_of_entry(entry).make_on_sheet(sheet));
         if reply.code != 0 {
             return Reply {
@@ -181,12 +181,11 @@ impl<'a> Run<'a> {
     // Makes an edit or a batch both ways; the reply with the frame, and the other.
     fn make(&mut self, bytes: &[u8]) -> (Reply, Reply) {
         if is_batch(bytes) {
-            let list = bytes_of(data_of(bytes));
+            let list = data_of(bytes);
             let reply = Reply::from(station_edit_list(self.patched, self.frame, list));
             return (reply, make_counted(self.fresh, list, reply));
         }
-        let item = u32_of(rest(bytes, 1));
-        let edit = edit_of(byte_at(bytes, 0), item, data_of(bytes));
+        let edit = edit_of(bytes);
         let reply = edit.make(self.patched, self.frame);
         (
             Reply::from(reply),
