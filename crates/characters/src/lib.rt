@@ -16,8 +16,8 @@ pub struct Cursor {
     pub at: usize,
 }
 
-// What stands at a position: a character and the position after it, a sequence that RFC 3629 does not allow, or the end. docs/DECISIONS.md, "Forms
-// that were asked for", names the step at a cursor and its `let else`; no Result, which would make the end of a text an error.
+// What stands at a position: a character and the position after it, a sequence that RFC 3629 does not allow, or the end. docs/DECISIONS.md, Forms
+// that were asked for, names the step at a cursor and its `let else`; no Result, which would make the end of a text an error.
 #[derive(Clone, Copy, Debug, PartialEq, Eq)]
 pub enum Step {
     Character(u32, Cursor),
@@ -34,7 +34,7 @@ pub struct Characters<'a> {
 }
 
 // The ones at the head of a lead byte: the length of its sequence, or 0 for a byte that stands alone. Leading zeros of the complement, as
-// docs/DECISIONS.md, "Forms that were asked for", names it.
+// docs/DECISIONS.md, Forms that were asked for, names it.
 fn leading_ones(lead: u8) -> u32
     ensures { result ≡ leading_ones lead }
 {
@@ -170,7 +170,7 @@ fn ascii_length(s: &[u8]) -> usize
 }
 
 // Whether a text is well-formed; the refusal if it is not.
-// Cursors by `let else`, as docs/DECISIONS.md, "Forms that were asked for", names it.
+// Cursors by `let else`, as docs/DECISIONS.md, Forms that were asked for, names it.
 pub fn walk<E: Copy>(s: &[u8], refusal: E) -> Result<(), E>
     ensures { result ≡ cond (well_formed s.now) (Ok tt) (Err refusal) }
 {

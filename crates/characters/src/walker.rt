@@ -5,7 +5,7 @@ ghost use Rattle.characters.specs.Walker.{moved_to};
 
 use super::{Cursor, Step};
 
-// The line's bytes and the offset of the next character: a host keeps both. docs/DECISIONS.md, "Forms that were asked for", names these two and
+// The line's bytes and the offset of the next character: a host keeps both. docs/DECISIONS.md, Forms that were asked for, names these two and
 // `new`, `next` and `moved`.
 #[derive(Clone, Copy, Debug, PartialEq, Eq)]
 pub struct Walker<'a> {

@@ -35,7 +35,7 @@ pub fn store_bytes(to: &mut [u8], at: usize, bytes: &[u8])
 }
 
 // Fills a rectangle of a frame fw wide: rows as wide as the frame are filled as one.
-// A row is a part that starts mid-frame, as docs/DECISIONS.md, "Forms that were asked for", names it.
+// A row is a part that starts mid-frame, as docs/DECISIONS.md, Forms that were asked for, names it.
 pub fn fill_area(greys: &mut [u8], fw: usize, area: FrameArea, grey: u8)
     requires { InFrame fw (length greys.old) area }
     ensures { greys.new ≡ paint fw (filled (on_frame area) (Some grey)) greys.old }

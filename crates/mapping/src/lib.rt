@@ -15,7 +15,7 @@ use search::Passed;
 pub mod search;
 
 // What stands at a position of a mapping: a range of characters and the position after it, a sequence that RFC 3629 does not allow, or the end of
-// the list. Three cases as a step has, taken by `let else` in `check_mapping`, as docs/DECISIONS.md, "Forms that were asked for", names it; no Result,
+// the list. Three cases as a step has, taken by `let else` in `check_mapping`, as docs/DECISIONS.md, Forms that were asked for, names it; no Result,
 // which would make the end of a list an error.
 #[derive(Clone, Copy, Debug, PartialEq, Eq)]
 pub enum Entry {
@@ -246,7 +246,7 @@ fn stop_refusal(stop: Entry, count: u64) -> Result<(), Refusal>
 }
 
 // Refuses an ill-formed mapping, and one that spells more than 65,536 characters. The walk is over cursors, each entry and the next one taken
-// by `let else`: docs/DECISIONS.md, "Forms that were asked for", names this place.
+// by `let else`: docs/DECISIONS.md, Forms that were asked for, names this place.
 pub fn check_mapping(mapping: &[u8]) -> Result<(), Refusal>
     ensures { refusal_of result ≡ refusal mapping.now }
 {

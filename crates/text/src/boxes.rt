@@ -19,7 +19,7 @@ use characters::lines::{line_length, without_return};
 use geometry::Rectangle;
 
 // The line that starts at `from`: a part of the new text, or of the stored one if none is new, by its bytes and by where they lie.
-// By an offset, as docs/DECISIONS.md, "Forms that were asked for", names it: the contract says where in its text the line lies.
+// By an offset, as docs/DECISIONS.md, Forms that were asked for, names it: the contract says where in its text the line lies.
 pub fn line_of<'a>(stored: &'a [u8], new: Option<&'a [u8]>, from: usize) -> &'a [u8]
     requires { from ≤ length (unwrap_or new stored).now }
     ensures result_value { result.now ≡ line_from (unwrap_or new.entry stored.entry).now from }
