@@ -184,8 +184,8 @@ impl<'a> ImageRaw<'a> {
     }
 
     // Draws the image from a pixel on in a cell of which the frame shows some, row by row down to the cell's foot or the frame's; gives the
-    // first row that is not run. `SubImage` stays a clause: the pixels that are read are others at each call. Rows are counted, since of a slice whose
-    // parts an iterator lends for writing beside others a proof does not know what it holds at the end (`copy_bytes` of geometry).
+    // first row that is not run. `SubImage` stays a clause: the pixels that are read are others at each call. Rows are counted, since each is a part
+    // that starts mid-frame, as the rows of `fill_area` of geometry.
     fn draw_sub_image(
         &self,
         frame: &mut Frame,

@@ -10,7 +10,7 @@ use super::reader::{BoundingBox, OFFSET_ORIGIN};
 use geometry::store_bytes;
 
 // Puts the bits of a bitmap line into a row of the atlas, from pixel `left` up to `end`. By a byte's number, since the shift needs it too: an iterator
-// would be `enumerate` cut at both ends by `take` and `skip`, and the last byte stands behind it.
+// would be `enumerate` with a `take` and a `skip`, and the last byte stands behind it.
 pub fn put_bits(row: &mut [u8], left: usize, end: usize, bits: u64)
     requires { BitsFit left end bits (length row.old) }
     ensures { row.new ≡ map_indexed (with_bits bits end) 0 row.old }

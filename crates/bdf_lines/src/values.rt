@@ -145,8 +145,8 @@ pub fn encoding_of(line: &[u8]) -> Option<Number>
     None
 }
 
-// The value of each byte as a hexadecimal digit, or 255. A table with such a mark: measured in Rust, a line of four digits takes 44 instructions by
-// it, 57 by a match and 71 by `to_digit`, which is 9 % and 19 % of a reading.
+// The value of each byte as a hexadecimal digit, or 255. A table with such a mark: reading a font is not to be slower by more than 5 % (docs/DECISIONS.md, Today's forms), and
+// measured in Rust a line of four digits takes 44 instructions by it, 57 by a match and 71 by `to_digit`: 9 % and 19 % of a reading.
 fn digit_values() -> &'static [u8; 256]
     ensures { IsTable result.now }
 {

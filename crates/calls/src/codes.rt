@@ -1,4 +1,5 @@
 // The codes of the calls: the check's refusal, then the call's own tests, rising; a call that passes them has the accepted sheet, or its font or item.
+// Each is named by the definition of its code, which its clause cites.
 ghost use Rattle.std.specs.Prelude.{◌≡◌, ◌≤◌, true, length, IfOk};
 ghost use Rattle.refusals.specs.Numbers.{refusal_of};
 ghost use Rattle.entries.specs.Entries.{is_filled};
@@ -13,7 +14,7 @@ use refusals::Refusal;
 use sheet::Sheet;
 
 // `font_code` and `item_code` are two, as `records::font` and `item` are: one generic over both pairs needs a trait with a count, a maker and their clauses, and two
-// impls, to save the two lines of code here and the four there.
+// impls, to save the two lines of code here and the four there; likewise `font` and `item` of a header, and `record` of both.
 
 // The check, then 12 for a font.
 #[tactic(auto, using(characters::proofs::Refusals::chain), unfolding(crate::specs::Calls::font_code))]

@@ -155,7 +155,8 @@ fn ascii_bytes(s: &[u8]) -> usize
     s.iter().position(|b| 0x80 <= *b).unwrap_or(s.len())
 }
 
-// How many bytes below 80 lead the text: each is a character. They are passed over sixteen at a time, as long as all sixteen are below.
+// How many bytes below 80 lead the text: each is a character. They are passed over sixteen at a time, as long as all sixteen are below,
+// and counted, since what is left is asked behind the loop.
 fn ascii_length(s: &[u8]) -> usize
     ensures { result ≡ ascii_length s.now }
 {

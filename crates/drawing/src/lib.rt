@@ -117,7 +117,7 @@ pub fn draw_item(item: ItemRecord<'_>, frame: &mut [u8]) -> DrawnText
     item.to_text().draw(&mut frame)
 }
 
-// `width ≤ 65,535` stays a clause: it is of a host's number, which `calls::codes` tests once and no value holds.
+// `width ≤ 65,535` stays a clause: a type for a host's one number would be made in `calls::codes` and opened here, for this call alone.
 
 // Draws whitespace of a width at an item's place in a frame's clip; gives the next position.
 fn draw_whitespace_in(item: ItemRecord<'_>, frame: &mut Frame, width: u32) -> Point

@@ -77,6 +77,7 @@ fn edit_of(bytes: &[u8]) -> Edit<'_> {
 // ---- a batch made singly on the sheet alone: its entries are a kind (1 byte), an item (1), and the data, a length (2) and the bytes; they are read
 // here, and not by crate `entries`, which is part of what is compared
 
+// Beside `data_size`: a head of 2 bytes, and not of 5.
 fn entry_data_size(entry: &[u8]) -> usize
     ensures { result < 65536 }
 {

@@ -35,7 +35,7 @@ pub fn refusal(sheet: Sheet<'_>, asked: Entry<'_>) -> Result<(), Refusal>
     }
     match asked.edit {
         Edit::Text(text) => {
-            let size = u16_at(sheet.bytes, header.item_offset(asked.item) + 8);
+            let size = header.item(asked.item).u16_at(8);
             if size < text.len() {
                 return Err(Refusal::NewTextTooLong);
             }
@@ -64,6 +64,8 @@ fn store_padded(to: &mut [u8], from: &[u8])
     copy_bytes(&mut to[..from.len()], from);
     to[from.len()..].fill(0);
 }
+
+// An item is written where its record stands in the file, here and below: `Record` lends a file for reading, and a text's slot lies elsewhere in the same bytes.
 
 // Stores a text and its length in the item whose record stands at `o`, and 00 to the slot's end.
 #[tactic(auto, using(crate::proofs::Stored::text_stored), unfolding(sheet::specs::Fields::le16))]

@@ -11,7 +11,7 @@ ghost use Rattle.line.specs.Limits.{LengthLimit, PlaceLimits, CharacterLimits, C
 ghost use Rattle.line.specs.Lent.{lent, PreparedFor};
 
 use atlas::{Atlas, GlyphColors, ImageRaw};
-pub use fonts::{Font, Metrics};
+pub use fonts::{Font, Line, Metrics};
 use geometry::{Frame, Point, Rectangle};
 use mapping::Start;
 
@@ -60,16 +60,6 @@ pub enum Baseline {
     Bottom,
     Middle,
     Alphabetic,
-}
-
-// A line of text with what it is drawn in: its font and its colours; and whether the characters that its font does not list are counted.
-// The flag chooses once for a line in which columns characters are looked up: tested for each of them, the first page took 1.03 to 1.11 of its time.
-#[derive(Clone, Copy, Debug, PartialEq, Eq)]
-pub struct Line<'a> {
-    pub text: &'a [u8],
-    pub font: Font<'a>,
-    pub style: MonoTextStyle,
-    pub counts: bool,
 }
 
 // What drawing a line gives: the next x, and how many characters the font's mapping does not list, if they are counted.
@@ -185,8 +175,7 @@ impl Metrics {
         underline.draw(frame, second, corner, width);
     }
 
-    // `PlaceLimits` stays a clause, here and below: a caller proves it once, for its text and corner, and it goes down as it is. A type that held it
-    // would be a third line beside `Line` and `PreparedLine`, and whitespace has no line.
+    // `PlaceLimits` stays a clause: whitespace has no line, whose type holds it.
 
     // Draws whitespace of a width from `corner` on; gives the next x.
     pub fn draw_whitespace(
@@ -244,17 +233,17 @@ impl<'a> PreparedLine<'a> {
         count + u32::from(!glyph.listed)
     }
 
-    // Draws the glyphs of the line from `corner` on, and the gaps between them.
-    fn draw_glyphs(&self, frame: &mut Frame, corner: Point) -> DrawnGlyphs
-        requires prepared_for { PreparedFor frame.old.target.clip_area self.now }
-        requires place_limits { PlaceLimits (length self.now.line.text.now) corner.x corner.y }
-        ensures painted { Painted frame.old (line_glyphs (lent self.now.line.font) self.now.line.style self.now.line.text.now corner.x corner.y) frame.new }
-        ensures end_value { result.end ≡ corner.x + spaced self.now.line.font.metrics.font (length (chars self.now.line.text.now)) }
-        ensures replaced_value { result.replaced ≡ met_unlisted self.now.columns self.now.line.font.metrics.font self.now.line.font.mapping.bytes.now 0 (chars self.now.line.text.now) corner.x }
+    // Draws the glyphs of the line from its corner on, and the gaps between them.
+    fn draw_glyphs(&self, frame: &mut Frame) -> DrawnGlyphs
+        requires { PreparedFor frame.old.target.clip_area self.now }
+        ensures painted { Painted frame.old (line_glyphs (lent self.now.line.font) self.now.line.style self.now.line.text.now self.now.line.corner.x self.now.line.corner.y) frame.new }
+        ensures end_value { result.end ≡ self.now.line.corner.x + spaced self.now.line.font.metrics.font (length (chars self.now.line.text.now)) }
+        ensures replaced_value { result.replaced ≡ met_unlisted self.now.columns self.now.line.font.metrics.font self.now.line.font.mapping.bytes.now 0 (chars self.now.line.text.now) self.now.line.corner.x }
     {
         let font = self.line.font.metrics.font;
         let size = font.atlas.cell_size;
         let spacing = font.character_spacing;
+        let corner = self.line.corner;
         let mut x = corner.x;
         let mut gap: u32 = 0;
         let mut replaced: u32 = 0;
@@ -274,21 +263,18 @@ impl<'a> PreparedLine<'a> {
 }
 
 impl<'a> Line<'a> {
-    // The next x of the line from x on.
-    fn next_x(&self, x: u32) -> u32
-        requires length_limit { LengthLimit (length self.now.text.now) }
-        requires x_bound { x ≤ 8_388_608 }
-        ensures { result ≡ x + advance self.now.font.metrics.font self.now.style (length (chars self.now.text.now)) }
+    // The next x of the line.
+    fn next_x(&self) -> u32
+        ensures { result ≡ self.now.corner.x + advance self.now.font.metrics.font self.now.style (length (chars self.now.text.now)) }
     {
-        x + self.font.metrics.advance(self.text, self.style)
+        self.corner.x + self.font.metrics.advance(self.text, self.style)
     }
 
     // Draws the characters of the line; gives where they end, and the count of those in the clip's columns, or of all if they are counted.
-    fn draw_all_characters(&self, frame: &mut Frame, corner: Point) -> DrawnGlyphs
-        requires { PlaceLimits (length self.now.text.now) corner.x corner.y }
-        ensures painted { Painted frame.old (line_glyphs (lent self.now.font) self.now.style self.now.text.now corner.x corner.y) frame.new }
-        ensures end_value { result.end ≡ corner.x + spaced self.now.font.metrics.font (length (chars self.now.text.now)) }
-        ensures replaced_value { result.replaced ≡ met_unlisted (columns_of frame.old.target.clip_area self.now.counts) self.now.font.metrics.font self.now.font.mapping.bytes.now 0 (chars self.now.text.now) corner.x }
+    fn draw_all_characters(&self, frame: &mut Frame) -> DrawnGlyphs
+        ensures painted { Painted frame.old (line_glyphs (lent self.now.font) self.now.style self.now.text.now self.now.corner.x self.now.corner.y) frame.new }
+        ensures end_value { result.end ≡ self.now.corner.x + spaced self.now.font.metrics.font (length (chars self.now.text.now)) }
+        ensures replaced_value { result.replaced ≡ met_unlisted (columns_of frame.old.target.clip_area self.now.counts) self.now.font.metrics.font self.now.font.mapping.bytes.now 0 (chars self.now.text.now) self.now.corner.x }
     {
         let font = self.font;
         let prepared = PreparedLine {
@@ -297,28 +283,27 @@ impl<'a> Line<'a> {
             start: font.mapping.start_of(self.text),
             columns: Columns::of_clip(frame.target.clip_area, self.counts),
         };
-        prepared.draw_glyphs(frame, corner)
+        prepared.draw_glyphs(frame)
     }
 
     // Draws the characters of the line, if the frame shows them or they are counted; gives the next x, and the count if they are counted.
-    fn draw_characters(&self, frame: &mut Frame, corner: Point) -> DrawnLine
-        requires { PlaceLimits (length self.now.text.now) corner.x corner.y }
-        ensures painted { Painted frame.old (line_glyphs (lent self.now.font) self.now.style self.now.text.now corner.x corner.y) frame.new }
-        ensures next_value { result.next ≡ corner.x + advance self.now.font.metrics.font self.now.style (length (chars self.now.text.now)) }
+    fn draw_characters(&self, frame: &mut Frame) -> DrawnLine
+        ensures painted { Painted frame.old (line_glyphs (lent self.now.font) self.now.style self.now.text.now self.now.corner.x self.now.corner.y) frame.new }
+        ensures next_value { result.next ≡ self.now.corner.x + advance self.now.font.metrics.font self.now.style (length (chars self.now.text.now)) }
         ensures replaced_value { result.replaced ≡ cond self.now.counts (Some (unlisted self.now.font.mapping.bytes.now (chars self.now.text.now))) None }
     {
         let shown = self
             .font
             .metrics
-            .shows_glyphs(frame.target.clip_area, self.style, corner.y);
+            .shows_glyphs(frame.target.clip_area, self.style, self.corner.y);
         if !(shown | self.counts) {
-            let next = self.next_x(corner.x);
+            let next = self.next_x();
             return DrawnLine {
                 next,
                 replaced: None,
             };
         }
-        let drawn = self.draw_all_characters(frame, corner);
+        let drawn = self.draw_all_characters(frame);
         let replaced = self.counts.then_some(drawn.replaced);
         if shown {
             return DrawnLine {
@@ -326,22 +311,21 @@ impl<'a> Line<'a> {
                 replaced,
             };
         }
-        let next = self.next_x(corner.x);
+        let next = self.next_x();
         DrawnLine { next, replaced }
     }
 
-    // Draws the line from `corner` on: its start and its top edge; gives the next x, and how many characters are not listed if they are counted.
-    pub fn draw_string(&self, frame: &mut Frame, corner: Point) -> DrawnLine
-        requires { PlaceLimits (length self.now.text.now) corner.x corner.y }
-        ensures painted { Painted frame.old (string (lent self.now.font) self.now.style self.now.text.now corner.x corner.y) frame.new }
-        ensures next_value { result.next ≡ corner.x + advance self.now.font.metrics.font self.now.style (length (chars self.now.text.now)) }
+    // Draws the line from its corner on; gives the next x, and how many characters are not listed if they are counted.
+    pub fn draw_string(&self, frame: &mut Frame) -> DrawnLine
+        ensures painted { Painted frame.old (string (lent self.now.font) self.now.style self.now.text.now self.now.corner.x self.now.corner.y) frame.new }
+        ensures next_value { result.next ≡ self.now.corner.x + advance self.now.font.metrics.font self.now.style (length (chars self.now.text.now)) }
         ensures replaced_value { result.replaced ≡ cond self.now.counts (Some (unlisted self.now.font.mapping.bytes.now (chars self.now.text.now))) None }
     {
-        let drawn = self.draw_characters(frame, corner);
-        let width = drawn.next - corner.x;
+        let drawn = self.draw_characters(frame);
+        let width = drawn.next - self.corner.x;
         self.font
             .metrics
-            .draw_decorations(frame, self.style, corner, width);
+            .draw_decorations(frame, self.style, self.corner, width);
         drawn
     }
 }

@@ -58,7 +58,7 @@ impl MonoFont {
     }
 }
 
-// `LengthLimit` stays a clause: a line's bytes are cut just before the call that measures them, and a type that held it would serve that call alone.
+// `LengthLimit` stays a clause: a part of a text is lent anew for each measure, and a type of it would be made there for the two functions below.
 impl Metrics {
     // How wide a line's characters stand, each with the spacing after it.
     fn characters_width(&self, text: &[u8]) -> u32

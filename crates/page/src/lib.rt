@@ -21,7 +21,8 @@ fn digit_count(n: usize) -> usize
     3
 }
 
-// Width and height are two numbers here and below: the sides of `geometry::Size` are of 32 bits, which would ask more of callers.
+// Width and height are two numbers here and below: the sides of `geometry::Size` are of 32 bits, which would ask more of callers, and a size of this crate's own would
+// be made for each of two calls.
 
 // The page's length in bytes.
 pub fn page_length(frame: &[u8], w: usize, h: usize) -> usize

@@ -123,10 +123,8 @@ pub fn pixel_count(sheet: &[u8]) -> usize
     let Ok(accepted) = sheet::accepted(sheet) else {
         return 0;
     };
-    let header = accepted.header();
-    let w = header.frame_width() as usize;
-    let h = header.frame_height() as usize;
-    w * h
+    let size = calls::codes::frame_size(accepted);
+    size.width as usize * size.height as usize
 }
 
 // Fills a frame with greys that change from pixel to pixel.

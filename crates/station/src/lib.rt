@@ -38,8 +38,8 @@ pub fn station_check(sheet: &[u8]) -> u32
     }
 }
 
-// A `match` for each refusal, and no `map` under one generic `reply`: tried at `station_draw`, where it stopped at a refused call's frame, since `map` does not tell of
-// what its closure borrows where it is not called.
+// A `match` for each refusal here and below: under one generic `reply` and `map` it was tried at `station_draw`, and stopped at a refused call's frame, since `map` does
+// not tell of what its closure borrows where it is not called; where nothing is lent for writing, an inner function by `?` would be longer than the two arms.
 
 // The index of a character's glyph in a font, and 1 if the font's mapping lists the character, else 0.
 pub fn station_index(sheet: &[u8], font: u32, character: u32) -> Glyph
@@ -125,7 +125,7 @@ pub fn station_draw(sheet: &[u8], frame: &mut [u8]) -> u32
     }
 }
 
-// The reply of an edit that may be refused.
+// The reply of an edit that may be refused. `CornerFits` is a clause here and below, as in `calls::replies`.
 fn reply(made: Result<Rectangle, Refusal>) -> Box
     requires { IfOk made CornerFits }
     ensures { result ≡ reply_of made }

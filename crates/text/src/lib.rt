@@ -122,9 +122,10 @@ impl<'a> Text<'a> {
             text: without_return(line.text),
             font: Font::new(layout.metrics, self.atlas, self.mapping),
             style: layout.character_style,
+            corner: layout.line_corner(line),
             counts,
         };
-        shown.draw_string(frame, layout.line_corner(line))
+        shown.draw_string(frame)
     }
 
     // Draws the text; gives the next position of its last line, and how many characters of its lines the font's mapping does not list.

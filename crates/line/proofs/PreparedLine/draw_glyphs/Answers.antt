@@ -10,22 +10,22 @@ pub loop-ch-init : goal.loop-ch-init
 loop-ch-init c = drawn_start _ _ _ _ _ _ _ (ap chars_left c.into_iter-ch-iterator.ensures.into_iter_gives ∙ c.chars-ch-items.ensures)
 
 pub draw_character-replaced-requires-clause-prepared_for : goal.draw_character-replaced-requires-clause-prepared_for
-draw_character-replaced-requires-clause-prepared_for c = rw c.loop-ch.invariant.same_target c.requires.prepared_for
+draw_character-replaced-requires-clause-prepared_for c = rw c.loop-ch.invariant.same_target c.requires
 
 pub draw_character-replaced-requires-clause-character_limits : goal.draw_character-replaced-requires-clause-character_limits
 draw_character-replaced-requires-clause-character_limits c =
     let n = length-chars c.args.self.now.line.text.now in
-    character_limits _ _ _ _ _ _ _ _ _ _ _ _ c.loop-ch.invariant c.in-Some.ensures.steps (omega (arith, c.requires.place_limits.text_short)) c.requires.place_limits.near_x
+    character_limits _ _ _ _ _ _ _ _ _ _ _ _ c.loop-ch.invariant c.in-Some.ensures.steps (omega (arith, c.args.self.now.line.limits.text_short)) c.args.self.now.line.limits.near_x
 
 pub overflow_add-x : goal.overflow_add-x
 overflow_add-x c =
     let n = length-chars c.args.self.now.line.text.now in
-    record { fits = omega (arith, c.loop-ch.invariant.near, c.loop-ch.invariant.gap_small, c.requires.place_limits.text_short, c.requires.place_limits.near_x) }
+    record { fits = omega (arith, c.loop-ch.invariant.near, c.loop-ch.invariant.gap_small, c.args.self.now.line.limits.text_short, c.args.self.now.line.limits.near_x) }
 
 pub overflow_add-x-in-loop-ch : goal.overflow_add-x-in-loop-ch
 overflow_add-x-in-loop-ch c =
     let n = length-chars c.args.self.now.line.text.now in
-    record { fits = omega (arith, c.loop-ch.invariant.near, c.loop-ch.invariant.gap_small, c.args.self.now.line.font.metrics.limits.cw_small, c.requires.place_limits.text_short, c.requires.place_limits.near_x) }
+    record { fits = omega (arith, c.loop-ch.invariant.near, c.loop-ch.invariant.gap_small, c.args.self.now.line.font.metrics.limits.cw_small, c.args.self.now.line.limits.text_short, c.args.self.now.line.limits.near_x) }
 
 pub loop-ch-preserved : goal.loop-ch-preserved
 loop-ch-preserved c = drawn_step _ _ _ _ _ _ _ _ _ _ _ _ c.loop-ch.invariant c.in-Some.ensures.steps _ _ c.args.self.now.line.font.metrics.limits c.draw_character-replaced.ensures.painted c.draw_character-replaced.ensures.value

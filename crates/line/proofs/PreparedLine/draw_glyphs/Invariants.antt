@@ -6,4 +6,4 @@ use Rattle.line.proofs.Glyphs.{Drawn}
 use Rattle.line.proofs.PreparedLine.draw_glyphs.Given as goal
 
 abbrev pub invariant-loop-ch : goal.invariant-loop-ch
-invariant-loop-ch l = Drawn (lent l.self.line.font) l.self.line.style l.self.columns (chars l.self.line.text.now) l.corner.x l.corner.y l.initial.frame l.gap (chars_left l.ch-iterator) l.x l.replaced l.frame
+invariant-loop-ch l = Drawn (lent l.self.line.font) l.self.line.style l.self.columns (chars l.self.line.text.now) l.self.line.corner.x l.self.line.corner.y l.initial.frame l.gap (chars_left l.ch-iterator) l.x l.replaced l.frame

@@ -3,8 +3,8 @@ use Rattle.text.proofs.Places.{shown_place}
 use Rattle.text.proofs.Drawing.{line_painted, line_next_lem, line_count}
 use Rattle.text.proofs.texts.Text.draw_line.Goals as goal
 
-pub draw_string-requires : goal.draw_string-requires
-draw_string-requires c = search shown_place
+pub invariant_of-shown : goal.invariant_of-shown
+invariant_of-shown c = record { limits = search shown_place }
 
 pub returns-clause-painted : goal.returns-clause-painted
 returns-clause-painted c = line_painted c.args.self.now.layout c.args.line.now _ _ _ c.new.ensures.value _ _ c.without_return.ensures.result_value c.line_corner.ensures _ _ c.draw_string.ensures.painted

@@ -1,10 +1,10 @@
 -- `Line::draw_all_characters` meets its contract: what the walk needs is made of the font's bytes, of the text and of the clip. Assumes nothing.
 use native.Mathlib.Omega.{arith}
 use Rattle.line.proofs.Unlisted.{columns_cover, met_in}
-use Rattle.line.proofs.Line.draw_all_characters.Goals as goal
+use Rattle.line.proofs.fonts.Line.draw_all_characters.Goals as goal
 
-pub draw_glyphs-requires-clause-prepared_for : goal.draw_glyphs-requires-clause-prepared_for
-draw_glyphs-requires-clause-prepared_for c = record {
+pub draw_glyphs-requires : goal.draw_glyphs-requires
+draw_glyphs-requires c = record {
   image_bytes = c.new.ensures.bytes_value;
   image_atlas = c.new.ensures.atlas_value;
   start = c.start_of.ensures;

@@ -3,7 +3,7 @@ use Rattle.geometry.proofs.Paintings.{painted_none}
 use Rattle.line.specs.Lent.{lent}
 use Rattle.line.proofs.Strings.{glyphs_unshown, advance_shown}
 use Rattle.line.proofs.Unlisted.{unasked, met_counted}
-use Rattle.line.proofs.Line.draw_characters.Goals as goal
+use Rattle.line.proofs.fonts.Line.draw_characters.Goals as goal
 
 pub returns-then-not-shown-self-clause-painted : goal.returns-then-not-shown-self-clause-painted
 returns-then-not-shown-self-clause-painted c =
