@@ -28,18 +28,29 @@ module _ (f : Font) (t : Text) where
   lines-above m u (l ∷ ls) y c r grey h =
       lines-above m u ls (y + line_height m u.text_style.line_height) c r _ (omega arith) ∙ line_out f t c r (place_line m u l y) grey (λ i. omega arith)
 
-  module _ (target : DrawTarget) (xs : List ℕ) where
-    pub nothing_painted : xs ≡ paint_on target (lines_layer f t []) xs
-    unfolding lines_layer
-    nothing_painted = paint_unseen target _ xs (λ c r grey i. refl)
+  module _ (target : DrawTarget) where
+    -- so those below a clip, of whatever text they are, paint nothing in it
+    any_below : (m : MonoFont) (u : Text) (ls : List (List ℕ)) (y : ℕ) (xs : List ℕ) → is_below target.clip_area (top_edge f.mono t.text_style.baseline y) ≡ true
+        → xs ≡ paint_on target (lines_layer f t (place_lines m u ls y)) xs
+    unfolding is_below
+    any_below m u ls y xs e =
+        let h = leb-true target.clip_area.height (top_edge f.mono t.text_style.baseline y - target.clip_area.top) e in
+        paint_unseen target _ xs (λ c r grey i. lines-above m u ls y c r grey (omega arith))
 
-    -- so those left that stand below a clip paint nothing in it
-    pub lines_below : (s : TextLines) → is_below target.clip_area (top_edge f.mono t.text_style.baseline s.y) ≡ true
+    pub lines_below : (ls : List (List ℕ)) (y : ℕ) (xs : List ℕ) → is_below target.clip_area (top_edge f.mono t.text_style.baseline y) ≡ true
+        → xs ≡ paint_on target (lines_layer f t (place_lines f.mono t ls y)) xs
+    lines_below = any_below f.mono t
+
+    pub nothing_painted : (xs : List ℕ) → xs ≡ paint_on target (lines_layer f t []) xs
+    unfolding lines_layer
+    nothing_painted xs = paint_unseen target _ xs (λ c r grey i. refl)
+
+    -- and those that an iterator has left
+    pub left_below : (xs : List ℕ) (s : TextLines) → is_below target.clip_area (top_edge f.mono t.text_style.baseline s.y) ≡ true
         → xs ≡ paint_on target (lines_layer f t (lines_left s)) xs
-    unfolding lines_left is_below
-    lines_below s e = go (leb s.from (length (source s)))
+    unfolding lines_left
+    left_below xs s e = go (leb s.from (length (source s)))
       where
         go : (b : Bool) → xs ≡ paint_on target (lines_layer f t (cond b (place_lines s.layout.now.metrics.font (laid_out s.layout.now (source s)) (lines (drop s.from (source s))) s.y) [])) xs
-        go true = paint_unseen target _ xs (λ c r grey i. lines-above s.layout.now.metrics.font (laid_out s.layout.now (source s)) (lines (drop s.from (source s))) s.y c r grey
-            (let h = leb-true target.clip_area.height (top_edge f.mono t.text_style.baseline s.y - target.clip_area.top) e in omega arith))
-        go false = nothing_painted
+        go true = any_below s.layout.now.metrics.font (laid_out s.layout.now (source s)) (lines (drop s.from (source s))) s.y xs e
+        go false = nothing_painted xs

@@ -24,7 +24,7 @@ use Rattle.text.specs.Text.{Text, place_line, placed_lines, line_layer, lines_la
 use Rattle.text.specs.Lines.{line_corner, is_below}
 use Rattle.text.specs.Lent.{lent_font, lent_text, line_text, placed_line}
 use Rattle.text.specs.Remaining.{lines_left, LineGiven}
-use Rattle.text.proofs.Below.{nothing_painted, lines_below}
+use Rattle.text.proofs.Below.{nothing_painted, left_below}
 use Rattle.text.proofs.Replaced.{replaced_few}
 
 -- ---- `draw_line`: `corner` is the line's corner, `shown` its bytes without the return, and `f` the text's font
@@ -78,7 +78,7 @@ module _ (self : Lent.Text) where
         -- where the line lies below the clip, all that is shown is painted
         pub paint_below : (r : Bool) → r ≡ is_below frame.target.clip_area (top_edge f.mono t.text_style.baseline l.position.y) → r ≡ true → Painted first (layer f t) frame
         paint_below r e h =
-            d.whole frame (painted_none frame _ (lines_below f t frame.target frame.greys.now s (rw g.same_y at (sym e ∙ h))))
+            d.whole frame (painted_none frame _ (left_below f t frame.target frame.greys.now s (rw g.same_y at (sym e ∙ h))))
 
   -- what is replied at a line: `p` is the next position of the one before it, and `n` characters of those before it are counted
   pub record LinesCounted (s : TextLines) (p : Point) (n : ℕ) : Type 0 where
