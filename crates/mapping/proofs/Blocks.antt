@@ -249,7 +249,6 @@ module _ (s : List ℕ) (limit : ℕ) where
           let l = lead_within in
           let w = g.within in
           record {
-            several = m;
             below = record {
               within = omega arith;
               counted = let c = g.counted in omega (arith, leads-after s r.at n);
@@ -261,17 +260,17 @@ module _ (s : List ℕ) (limit : ℕ) where
                     )
               ];
             };
-            boundary = λ y.
+            boundary = λ x y.
                 let z : position_or_len is_lead (bytes_from s r.at) < length (bytes_from s r.at) = omega (arith, rest_length s r.at) in
                 let t = prefix_len_stops (λ b. not (is_lead b)) (bytes_from s r.at) 0 z in
                 rw (e, ← rest_byte s r.at (position_or_len is_lead (bytes_from s r.at))) (not-false _ t);
           }
 
-  -- for a character whose sequence begins with the limit or a higher byte
-  pub skips_from : (r : Passed) → SkipsBelow s limit r → (ch lead : ℕ) → lead ≡ (needle_of ch).lead → limit ≤ lead → Fits w8 lead → Skips s (needle_of ch) r
+  -- for a character whose sequence begins with the limit or a higher byte; 00 is the highest
+  pub passes_from : (r : Passed) → SkipsBelow s limit r → (ch lead : ℕ) → lead ≡ (needle_of ch).lead → (limit + 255) % 256 ≤ (lead + 255) % 256
+      → Passes s (needle_of ch) r
   unfolding before
-  skips_from r g ch lead e l f =
-      let m = g.several in record { passes = below-passes r g.below (needle_of ch) (rw (← e) (omega arith)); boundary = g.boundary }
+  passes_from r g ch lead e l = below-passes r g.below (needle_of ch) (rw (← e) l)
 
   -- no block yet
   pub below_start : Below s limit (record { at = 0; count = 0 })

@@ -2,7 +2,7 @@
 use mathlib.Core.Path.{◌≡◌, refl, sym, ◌∙◌}
 use mathlib.Core.Bool.{Bool, true, false, ◌||◌, true≢false}
 use mathlib.Core.List.{List, ◌∷◌}
-use Prim.Native.Nat.{ℕ, zero, suc, ◌+◌, ◌-◌, ◌<◌, ◌≤◌, min}
+use Prim.Native.Nat.{ℕ, zero, suc, ◌+◌, ◌-◌, ◌%◌, ◌<◌, ◌≤◌, min}
 use native.Mathlib.Omega.{arith}
 use native.Mathlib.Decide.{dec_lt}
 use borrow.Author.Tests.{eq-eqb, ne_eqb}
@@ -24,7 +24,7 @@ use Rattle.std.specs.Prelude.{Option, None}
 use Rattle.mapping.specs.Entries.{entry_at, at_most}
 use Rattle.mapping.specs.Mapping.{spelled, list_of, place_from}
 use Rattle.mapping.specs.Search.{is_lead, leads, needle_of, may_begin, may_begin_at, SkipsBelow, Passes, Skips, Resumes}
-use Rattle.mapping.proofs.Blocks.{leads-append, leads_one, passes_none, skips_from, skips_both, bytes_from, rest_length, chars_rest, well_rest}
+use Rattle.mapping.proofs.Blocks.{leads-append, leads_one, passes_none, passes_from, skips_both, bytes_from, rest_length, chars_rest, well_rest}
 use Rattle.mapping.proofs.Entries.{StoppedEntry, entry_range}
 use Rattle.mapping.proofs.Places.{place_capped, find_stopped}
 use Rattle.mapping.proofs.Sequences.{Spelt, step_spelt}
@@ -39,8 +39,19 @@ well_lead s at (Character ch c) e v h = (step_spelt s at e).starts
 well_lead s at IllFormed e v h = absurd (true≢false (sym v ∙ well_formed_stopped s at e ill_formed_stopped h))
 well_lead s at End e v h = absurd (let q = step_end s at e refl in omega arith)
 
-pub skips_none : (s : List ℕ) (p : Needle) → well_formed s ≡ true → Skips s p (record { at = 0; count = 0 })
-skips_none s p v = record { passes = passes_none s p; boundary = λ h. well_lead s 0 (step_at s 0) refl v h }
+module _ (s : List ℕ) (p : Needle) (v : well_formed s ≡ true) where
+  pub skips_none : Skips s p (record { at = 0; count = 0 })
+  skips_none = record { passes = passes_none s p; boundary = λ h. well_lead s 0 (step_at s 0) refl v h }
+
+  -- up to a lead byte, unless nothing is passed over
+  skips-passed : (r : Passed) → Passes s p r → (0 < r.at → r.at < length s → is_lead (get_or s r.at 0) ≡ true) → Skips s p r
+  skips-passed r g b = record {
+    passes = g;
+    boundary = λ h. elim (dec_lt 0 r.at) [
+      | yes l ↦ b l h
+      | no l ↦ let z : r.at ≡ 0 = omega arith in rw z (well_lead s 0 (step_at s 0) refl v (omega arith))
+    ];
+  }
 
 -- the needle that was found is the character's
 pub skips_needle : (s : List ℕ) (ch : ℕ) (p : Needle) (g r : Passed) → p ≡ needle_of ch → Passes s p g → Skips (bytes_from s g.at) p r
@@ -153,10 +164,11 @@ module _ (s : List ℕ) (ch : ℕ) (r : Passed) (g : Skips s (needle_of ch) r) (
   skip_stopped e t most k f h = find_stopped s r.at e t most _ ch f (rw (skip-placed k) at h)
 
 -- after what was passed over, counted from as many as that has
-pub resumes : (s : List ℕ) (ch limit : ℕ) (r : Passed) → SkipsBelow s limit r → well_formed s ≡ true → (lead : ℕ) → lead ≡ (needle_of ch).lead → Fits w8 lead
-    → limit ≤ lead → (k m j : ℕ) → m ≡ min r.count 65_536 → j ≡ min (k + m) 65_536 → Resumes s ch k (bytes_from s r.at) j
-resumes s ch limit r g v lead e f h k m j a b =
-    let t = skips_from s limit r g ch lead e h f in
+pub resumes : (s : List ℕ) (ch limit : ℕ) (r : Passed) → SkipsBelow s limit r → well_formed s ≡ true → (lead : ℕ) → lead ≡ (needle_of ch).lead
+    → (low high : ℕ) → low ≡ (limit + 255) % 256 → high ≡ (lead + 255) % 256 → low ≤ high
+    → (k m j : ℕ) → m ≡ min r.count 65_536 → j ≡ min (k + m) 65_536 → Resumes s ch k (bytes_from s r.at) j
+resumes s ch limit r g v lead e low high x y h k m j a b =
+    let t = skips-passed s (needle_of ch) v r (passes_from s limit r g ch lead e (omega arith)) g.boundary in
     record {
       well = well_rest s r.at t.passes.within ∙ skip_well s ch r t v;
       small = omega arith;

@@ -60,11 +60,10 @@ pub record Below (s : List ℕ) (limit : ℕ) (r : Passed) : Type 0 where
   pub counted : r.count ≡ leads s 0 r.at
   pub low : (q : ℕ) → q < r.at → before (get_or s q 0) < before limit
 
--- the same, up to the end or to a lead byte, where a sequence of several bytes begins with the limit
+-- the same, up to the end or to a lead byte, unless there are none
 pub record SkipsBelow (s : List ℕ) (limit : ℕ) (r : Passed) : Type 0 where
-  pub several : 0xC0 ≤ limit
   pub below : Below s limit r
-  pub boundary : r.at < length s → is_lead (get_or s r.at 0) ≡ true
+  pub boundary : 0 < r.at → r.at < length s → is_lead (get_or s r.at 0) ≡ true
 
 -- where the search starts: the first entry, and bytes after it that are below `lead`, if any are passed over
 pub record StartOf (s : List ℕ) (x : Start) : Type 0 where

@@ -155,7 +155,8 @@ fn passed_below(rest: &[u8], text: &[u8]) -> Option<PassedBelow>
 }
 
 // The rest of the bytes after the first entry in which ch is looked for, and how many characters are counted by there if `count` are before:
-// after what is passed over, if the sequence of ch begins with its lead byte or a higher one.
+// after what is passed over, if the sequence of ch begins with its lead byte or a higher one, 00 counted as the highest: no 00 is passed over, so that
+// U+0000 is not looked for among those bytes again.
 fn resume(rest: &[u8], below: Option<PassedBelow>, count: u64, ch: u32) -> (&[u8], u64)
     requires well { well_formed rest.now ≡ true }
     requires skips_below { IfSome below (λ below. SkipsBelow rest.now below.lead below.passed) }
@@ -163,7 +164,7 @@ fn resume(rest: &[u8], below: Option<PassedBelow>, count: u64, ch: u32) -> (&[u8
     ensures { Resumes rest.now ch count result.0.now result.1 }
 {
     match below {
-        Some(below) if below.lead <= search::lead_of(ch) => {
+        Some(below) if below.lead.wrapping_sub(1) <= search::lead_of(ch).wrapping_sub(1) => {
             let more = below.passed.count.min(65536);
             let counted = (count + more).min(65536);
             (&rest[below.passed.at..], counted)
