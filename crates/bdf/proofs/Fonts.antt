@@ -13,7 +13,7 @@ use borrow.Author.Tests.{le-leb, lt-leb}
 use borrow.Rule.Slice.PartMut.{put_mid, post_of}
 use Rattle.characters.specs.Refusal.{unless_refused}
 use Rattle.bdf.specs.declared.reader.Reader.{Reader}
-use Rattle.std.specs.Prelude.{Result, Err}
+use Rattle.std.specs.Prelude.{Result, Ok, Err}
 use Rattle.std.specs.Int.{div_ceil}
 use Rattle.refusals.specs.declared.Refusal.{Refusal}
 use Rattle.refusals.specs.declared.Refusal.TheVariants.{OutputTooShort}
@@ -23,9 +23,9 @@ use Rattle.bdf.specs.Reader.{start, first_refusal, last_reader, file_lines}
 use Rattle.bdf.specs.Font.{atlas_size, font_of, atlas_of, mapping_of, record_of, font_bytes, read_code, written}
 use Rattle.bdf.specs.Writing.{GoodCell, put_lines}
 use Rattle.bdf.specs.Within.{Within}
-use Rattle.bdf.specs.Walk.{Measured, put_lines_if, Room, IsMeasured}
+use Rattle.bdf.specs.Walk.{measured, numbered, put_lines_if, Room, IsMeasured}
 use Rattle.bdf.proofs.Invariant.{within-start, within_last}
-use Rattle.bdf.proofs.Walks.{or_first}
+use Rattle.bdf.proofs.Walks.{or_first, measured_parts}
 use Rattle.bdf.proofs.Written.{font-written, font-length, record_right}
 
 -- ---- what was measured
@@ -189,13 +189,16 @@ module _ (file : List ℕ) (last : Reader) (m : IsMeasured file last) (size : �
     pub output_long : length (take (28 + size + last.mapping - 0) output) ≡ 28 + atlas_size last.cell last.glyphs + last.mapping
     output_long = let z : 28 + size + last.mapping - 0 ≡ 28 + size + last.mapping = omega arith in (rw z (length-take-le _ output h)) ∙ ap (λ (k : ℕ). 28 + k + last.mapping) e
 
--- ---- a file that is refused
+-- ---- a file that is good, or refused: x is what the first pass gave
 
-module _ (file : List ℕ) (x : Result Reader Refusal) (m : Measured x start (file_lines file)) where
+module _ (file : List ℕ) (x : Result Reader Refusal) (d : numbered x ≡ measured start (file_lines file)) where
+  pub measured_is : (last : Reader) → x ≡ Ok last → IsMeasured file last
+  measured_is last e = let m = measured_parts x start (file_lines file) d in record { good = sym m.code ∙ ap refusal_of e; last_is = m.last last e }
+
   module _ (n : Refusal) (e : x ≡ Err n) where
     refused-code : (k : ℕ) → read_code file k ≡ number n
     unfolding read_code file_lines
-    refused-code k = rw (sym m.code ∙ ap refusal_of e) (or_first (number n) _ (not_zero n))
+    refused-code k = rw (sym (measured_parts x start (file_lines file) d).code ∙ ap refusal_of e) (or_first (number n) _ (not_zero n))
 
     pub file_refused : (k : ℕ) → number n ≡ read_code file k
     file_refused k = sym (refused-code k)

@@ -17,9 +17,9 @@ use Rattle.bdf.specs.declared.reader.Reader.{Reader}
 use Rattle.bdf.specs.declared.reader.Answer.{Answer}
 use Rattle.bdf.specs.Reader.{file_lines, start, step, reader_of, first_refusal, last_reader}
 use Rattle.bdf.specs.Within.{Within}
-use Rattle.bdf.specs.Walk.{Measured, put_if, put_lines_if, Room, Carries, NextLine, LastLine, LineRefused, AnswerFits}
+use Rattle.bdf.specs.Walk.{measured, numbered, put_if, put_lines_if, Room, Carries, NextLine, LastLine, LineRefused, AnswerFits}
 use Rattle.bdf.proofs.Invariant.{within-start}
-use Rattle.bdf.proofs.Walks.{not_ok, lines_more_here, lines_last_here, first_or_last, rest_shorter, carries_none, carries_on, carries_line, last_line, line-refusal, put_kept, room_kept}
+use Rattle.bdf.proofs.Walks.{not_ok, measured_whole, measured_parts, lines_more_here, lines_last_here, first_or_last, rest_shorter, carries_none, carries_on, carries_line, last_line, line-refusal, put_kept, room_kept}
 use Rattle.bdf.proofs.Strips.{answer_fits}
 
 -- ---- one line
@@ -82,8 +82,8 @@ module _ (file : List ℕ) (w : Bool) (size : ℕ) (out : List ℕ) where
         refused-code : number n ≡ first_refusal start (file_lines file)
         refused-code = l.first ∙ both.carries.same_refusal
 
-        pub pass_refused : Measured (Err n) start (file_lines file)
-        pass_refused = record { code = refused-code; last = λ t o. absurd (not_ok o) }
+        pub pass_refused : numbered (Err n) ≡ measured start (file_lines file)
+        pass_refused = measured_whole (Err n) start (file_lines file) (record { code = refused-code; last = λ t o. absurd (not_ok o) })
 
         -- a file that is written has no such line
         pub pass_kept : exit ≡ put_lines_if w size start (file_lines file) out
@@ -98,12 +98,14 @@ module _ (file : List ℕ) (w : Bool) (size : ℕ) (out : List ℕ) where
           pass_less = omega (arith, l.shorter, d.onward)
 
         module _ (l : LastLine text w size s mid t exit) where
-          pub pass_end : (y : Result Reader Refusal) → Measured y t [] → Measured y start (file_lines file)
+          pub pass_end : (y : Result Reader Refusal) → numbered y ≡ measured t [] → numbered y ≡ measured start (file_lines file)
           unfolding last_reader
-          pass_end y m = record {
-            code = m.code ∙ l.same_refusal ∙ both.carries.same_refusal;
-            last = λ u o. m.last u o ∙ l.same_last ∙ both.carries.same_last;
-          }
+          pass_end y e =
+              let m = measured_parts y t [] e in
+              measured_whole y start (file_lines file) (record {
+                code = m.code ∙ l.same_refusal ∙ both.carries.same_refusal;
+                last = λ u o. m.last u o ∙ l.same_last ∙ both.carries.same_last;
+              })
 
           pub pass_put : exit ≡ put_lines_if w size start (file_lines file) out
           pass_put = l.put_whole ∙ both.carries.same-put

@@ -23,7 +23,7 @@ use Rattle.bdf.specs.Reader.{file_lines, order, in_bitmap, with_row, row_line, s
 use Rattle.bdf_lines.specs.Words.{words, row_of}
 use Rattle.bdf.specs.Writing.{put_lines}
 use Rattle.bdf.specs.Within.{Within}
-use Rattle.bdf.specs.Walk.{Measured, put_if, put_lines_if, Room, Carries, LastLine}
+use Rattle.bdf.specs.Walk.{measured_of, measured, numbered, Measured, put_if, put_lines_if, Room, Carries, LastLine}
 use Rattle.characters.specs.Lines.{line_length, line_from, without_return}
 use Rattle.characters.proofs.Feeds.{lines_more, lines_last}
 use Rattle.characters.specs.Refusal.{or_else}
@@ -52,6 +52,31 @@ module _ {A : Type 0} where
   pub err_is : (n k : Refusal) → ◌≡◌ {A = Result A Refusal} (Err n) (Err k) → n ≡ k
   unfolding err_of
   err_is n k e = ap (err_of n) e
+
+-- ---- what lines come to, as one equation and in two parts
+
+in_one : (x : Result Reader Refusal) (n : ℕ) (last : Reader) → refusal_of x ≡ n → ((s : Reader) → x ≡ Ok s → s ≡ last) → numbered x ≡ measured_of n last
+unfolding numbered
+in_one (Ok s) zero last e f = rw (f s refl)
+in_one (Ok s) (suc n) last e f = absurd (omega arith)
+in_one (Err k) zero last e f = absurd (not_zero k e)
+in_one (Err k) (suc n) last e f = rw e
+
+in_parts : (x : Result Reader Refusal) (n : ℕ) (last : Reader) → numbered x ≡ measured_of n last → (refusal_of x ≡ n) × ((s : Reader) → x ≡ Ok s → s ≡ last)
+unfolding numbered
+in_parts (Ok s) zero last e = (refl, λ t o. cc)
+in_parts (Ok s) (suc n) last e = cc
+in_parts (Err k) zero last e = cc
+in_parts (Err k) (suc n) last e = (cc, λ t o. cc)
+
+module _ (x : Result Reader Refusal) (r : Reader) (ls : List (List ℕ)) where
+  pub measured_whole : Measured x r ls → numbered x ≡ measured r ls
+  unfolding measured
+  measured_whole m = in_one x (first_refusal r ls) (last_reader r ls) m.code m.last
+
+  pub measured_parts : numbered x ≡ measured r ls → Measured x r ls
+  unfolding measured
+  measured_parts e = let p = in_parts x (first_refusal r ls) (last_reader r ls) e in record { code = p.0; last = p.1 }
 
 -- ---- a line, and the rest
 
@@ -182,16 +207,13 @@ module _ (file : List ℕ) (w : Bool) (size : ℕ) (r : Reader) (out : List ℕ)
 -- ---- the last reader, and the first line
 
 module _ (r : Reader) where
-  pub not_done : (r.expected ≡ Nothing → ⊥) → Measured (Err BdfLine) r []
-  unfolding first_refusal
-  not_done h = record {
-    code = rw (ne_eqb (order r.expected) 15 (λ o. h (order_tells r.expected Nothing 15 (sym o) refl)));
-    last = λ s e. absurd (not_ok e);
-  }
+  pub not_done : (r.expected ≡ Nothing → ⊥) → numbered (Err BdfLine) ≡ measured r []
+  unfolding numbered measured first_refusal
+  not_done h = rw (ne_eqb (order r.expected) 15 (λ o. h (order_tells r.expected Nothing 15 (sym o) refl)))
 
-  pub done : r.expected ≡ Nothing → Measured (Ok r) r []
-  unfolding first_refusal last_reader
-  done h = record { code = rw h; last = λ s e. sym (ok_is r s e) }
+  pub done : r.expected ≡ Nothing → numbered (Ok r) ≡ measured r []
+  unfolding numbered measured first_refusal last_reader
+  done h = rw h
 
 pub line_is : (text line x : List ℕ) (r : Reader) (a : Result Answer Refusal) → line ≡ line_from text 0 → x ≡ without_return line → a ≡ step r x → a ≡ step r (line_at text 0)
 line_is text line x r a d q f = f ∙ ap (step r) (q ∙ ap without_return d)

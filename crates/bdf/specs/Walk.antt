@@ -1,6 +1,6 @@
 -- A walk over the lines of a file, as its functions make it: what the whole file comes to, told from the rest of it. Assumes nothing.
 -- Serves contracts: nothing here has to be believed.
-use Rattle.std.specs.Prelude.{ℕ, ◌+◌, ◌-◌, ◌*◌, ◌/◌, ◌%◌, ◌^◌, ◌≤◌, ◌<◌, ◌≡◌, Bool, true, false, List, [], Result, Ok, Err, length, take, drop}
+use Rattle.std.specs.Prelude.{ℕ, zero, suc, ◌+◌, ◌-◌, ◌*◌, ◌/◌, ◌%◌, ◌^◌, ◌≤◌, ◌<◌, ◌≡◌, Bool, true, false, List, [], Result, Ok, Err, length, take, drop}
 use borrow.Rule.Slice.PartMut.{put_mid}
 use Rattle.geometry.specs.Layer.{map_indexed}
 use Rattle.bdf.specs.declared.reader.Expected.TheVariants.{Rows}
@@ -15,7 +15,20 @@ use Rattle.bdf.specs.Font.{ink_left, ink_top, stride, atlas_size, refusal}
 use Rattle.bdf.specs.Writing.{with_bits, put, put_lines}
 use Rattle.bdf.specs.Within.{Within}
 
--- what lines come to, from a reader on: their first refusal, or the reader after the last
+abbrev pub measured_of : ℕ → Reader → Result Reader ℕ
+measured_of zero r = Ok r
+measured_of (suc n) r = Err (suc n)
+
+-- what lines come to, from a reader on: the number of their first refusal, or the reader after the last
+unfoldable pub measured : Reader → List (List ℕ) → Result Reader ℕ
+measured r ls = measured_of (first_refusal r ls) (last_reader r ls)
+
+-- a result with its refusal's number
+unfoldable pub numbered : Result Reader Refusal → Result Reader ℕ
+numbered (Ok r) = Ok r
+numbered (Err n) = Err (number n)
+
+-- what lines come to in two parts, by which the laws go
 pub record Measured (x : Result Reader Refusal) (r : Reader) (ls : List (List ℕ)) : Type 0 where
   pub code : refusal_of x ≡ first_refusal r ls
   pub last : (s : Reader) → x ≡ Ok s → s ≡ last_reader r ls

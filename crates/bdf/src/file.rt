@@ -3,7 +3,7 @@ ghost use Rattle.std.specs.Prelude.{◌≡◌, ◌+◌, ◌≤◌, length, [], t
 ghost use Rattle.characters.specs.Lines.{line_length};
 ghost use Rattle.bdf.specs.Reader.{start, in_bitmap, step, first_refusal, last_reader, file_lines};
 ghost use Rattle.bdf_lines.specs.Forms.{line_at, LineBefore};
-ghost use Rattle.bdf.specs.Walk.{Measured, put_if, put_lines_if, Room, Carries, LineRefused, NextLine, LastLine, strip_of, put_strip_if, StripFits, put_spelling_if, SpellingFits, AnswerFits};
+ghost use Rattle.bdf.specs.Walk.{measured, numbered, put_if, put_lines_if, Room, Carries, LineRefused, NextLine, LastLine, strip_of, put_strip_if, StripFits, put_spelling_if, SpellingFits, AnswerFits};
 
 use super::reader::{Answer, Expected, Reader, SoundReader};
 use super::{glyphs, usual};
@@ -180,7 +180,7 @@ fn put_line<'a>(
 
 // What lines come to where there are no more.
 fn finished(reader: Reader) -> Result<Reader, Refusal>
-    ensures { Measured result reader [] }
+    ensures { numbered result ≡ measured reader [] }
 {
     if reader.expected == Expected::Nothing {
         return Ok(reader);
@@ -192,7 +192,7 @@ fn finished(reader: Reader) -> Result<Reader, Refusal>
 pub fn pass(file: &[u8], pieces: &mut [u8], size: usize, writing: bool) -> Result<Reader, Refusal>
     requires room { Room writing (last_reader start (file_lines file.now)) size (length pieces.old) }
     requires file_value { writing ≡ true → first_refusal start (file_lines file.now) ≡ 0 }
-    ensures value { Measured result start (file_lines file.now) }
+    ensures value { numbered result ≡ measured start (file_lines file.now) }
     ensures pieces_after { pieces.new ≡ put_lines_if writing size start (file_lines file.now) pieces.old }
 {
     let mut reader = Reader::start();

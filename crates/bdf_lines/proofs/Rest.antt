@@ -3,31 +3,22 @@ use Prim.Native.Nat.{ℕ, suc, ◌+◌, ◌-◌, ◌≤◌, ◌<◌}
 use native.Mathlib.Omega.{arith}
 use mathlib.Core.Path.{◌≡◌, refl, sym, ap, ◌∙◌}
 use mathlib.Core.Bool.{Bool, true, false, cond, not, ◌&&◌}
+use mathlib.Core.Logic.{◌⊎◌, inl, inr}
 use mathlib.Core.List.{List, [], ◌∷◌}
 use lib.ListN.{length, take, drop, drop_of_length-le, length-drop}
-use lib.Seq.{take_all}
+use lib.Seq.{drop-drop, take_all}
 use lib.Dec.{eqb, ltb}
-use borrow.Author.Tests.{ltb-true, ltb-false}
+use borrow.Author.Tests.{ltb-true, ltb-false, not-true, not-false}
 use lib.Pointwise.{pointwise}
 use Rattle.std.specs.List.{position_or_len}
 use Rattle.std.proofs.lemmas.List.Recursion.{is_position_or_len}
-use Rattle.std.specs.Option.{MatchOption, unwrap_or}
+use Rattle.std.specs.Option.{MatchOption, is_some, unwrap_or}
 use Rattle.std.specs.Prelude.{Option, Some, None}
 use Rattle.characters.specs.Lines.{before}
 use Rattle.bdf_lines.specs.Words.{is_blank, begins_word, words, same, is_alone, is_named, is_pair, is_comment}
-use Rattle.bdf_lines.specs.Rest.{is_none, after_word}
+use Rattle.bdf_lines.specs.Rest.{blanks, letters, word_end, is_none, after_word}
 
 -- ---- the words of a list
-
--- how many blanks lead a line
-blanks : List ℕ → ℕ
-blanks [] = 0
-blanks (b ∷ s) = cond (is_blank b) (suc (blanks s)) 0
-
--- how many bytes that are no blanks lead a line
-pub letters : List ℕ → ℕ
-letters [] = 0
-letters (b ∷ s) = cond (is_blank b) 0 (suc (letters s))
 
 -- blanks before them do not matter
 after-blanks : (s : List ℕ) → words s ≡ words (drop (blanks s) s)
@@ -79,6 +70,10 @@ within_word (b ∷ s) = go (within_word s) (is_blank b)
     go : letters s ≤ length s → (q : Bool) → cond q 0 (suc (letters s)) ≤ length (b ∷ s)
     go ih true = omega arith
     go ih false = omega arith
+
+first_end : (l : List ℕ) → word_end l 0 ≡ blanks l + letters (drop (blanks l) l)
+unfolding word_end
+first_end l = let z : 0 + blanks l ≡ blanks l = omega arith in ap (λ (k : ℕ). k + letters (drop k l)) z
 
 -- ---- `first_word`: x and y are what `position` gave
 
@@ -138,12 +133,18 @@ module _ (l : List ℕ) {x : Option ℕ} (e : x ≡ position_of (λ b. not (is_b
       pub end_within : end ≤ length s
       end_within = omega (arith, end_is, within_word s)
 
+      after_start : s ≡ drop (blanks l) l
+      after_start = rw start_is.0 at (d ∙ take_all (length l - start) (drop start l) (omega (arith, length-drop start l)))
+
       pub word_found : (w rest : List ℕ) → w ≡ take end s → rest ≡ drop end s → words l ≡ w ∷ words rest
       word_found w rest a b =
-          let is : s ≡ drop (blanks l) l = rw start_is.0 at (d ∙ take_all (length l - start) (drop start l) (omega (arith, length-drop start l))) in
-          let begins : begins_word s ≡ true = rw is (begins_after l start_is.1) in
-          let from : words l ≡ words s = rw is (after-blanks l) in
+          let begins : begins_word s ≡ true = rw after_start (begins_after l start_is.1) in
+          let from : words l ≡ words s = rw after_start (after-blanks l) in
           from ∙ rw (a, b, end_is) (split s begins)
+
+      pub word_place : (w rest : List ℕ) → w ≡ take end s → rest ≡ drop end s
+          → (w ≡ take (letters (drop (blanks l) l)) (drop (blanks l) l)) × (rest ≡ drop (word_end l 0) l)
+      word_place w rest a b = (rw (a, end_is, after_start), rw (b, end_is, after_start, first_end l) (drop-drop (letters (drop (blanks l) l)) (blanks l) l))
 
 -- ---- the same word
 
@@ -156,6 +157,25 @@ same_word (a ∷ s) [] = refl
 same_word (a ∷ s) (b ∷ t) = ap (λ (r : Bool). eqb a b && r) (same_word s t)
 
 -- ---- `is_end`, `after_word`
+
+module _ (l : List ℕ) (at : ℕ) where
+  pub none_past : (length l < at) ⊎ (length l < length l) → true ≡ is_none (words (drop at l))
+  unfolding words
+  none_past h = rw (drop_of_length-le l (past h))
+    where
+      past : (length l < at) ⊎ (length l < length l) → length l ≤ at
+      past (inl h) = omega arith
+      past (inr h) = omega arith
+
+  -- s is what `get` gave, x what `first_word` gave of it, and t what `is_none` gave of that
+  module _ (s : List ℕ) (d : s ≡ take (length l - at) (drop at l)) where
+    from_there : s ≡ drop at l
+    from_there = d ∙ take_all (length l - at) (drop at l) (omega (arith, length-drop at l))
+
+    pub end_if : {X : Type 0} (x : Option X) (w : X → List ℕ) (vs : X → List (List ℕ)) → MatchOption x (words s ≡ []) (λ y. words s ≡ w y ∷ vs y) → (t : Bool) → is_some x ≡ not t
+        → t ≡ is_none (words (drop at l))
+    end_if None w vs e t f = rw (← from_there, e, not-false t (sym f))
+    end_if (Some y) w vs e t f = rw (← from_there, e, not-true t (sym f))
 
 module _ (ws : List (List ℕ)) where
   pub word_absent : ws ≡ [] → true ≡ is_none ws

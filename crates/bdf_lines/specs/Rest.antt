@@ -1,8 +1,22 @@
--- What is left of a line's words after the first, as the functions read them. Assumes nothing.
+-- What is left of a line after its first word, as the functions read it: where it begins, and its words. Assumes nothing.
 -- Serves contracts: nothing here has to be believed.
-use Rattle.std.specs.Prelude.{ℕ, Bool, true, false, cond, List, [], ◌∷◌, Option, Some, None}
+use Rattle.std.specs.Prelude.{ℕ, suc, ◌+◌, Bool, true, false, cond, List, [], ◌∷◌, drop, Option, Some, None}
 use Rattle.bdf_lines.specs.declared.values.Number.{Number}
-use Rattle.bdf_lines.specs.Words.{same, number_of, are_hex, hex_from}
+use Rattle.bdf_lines.specs.Words.{is_blank, same, number_of, are_hex, hex_from}
+
+-- how many blanks lead a line
+unfoldable pub blanks : List ℕ → ℕ
+blanks [] = 0
+blanks (b ∷ s) = cond (is_blank b) (suc (blanks s)) 0
+
+-- how many bytes that are no blanks lead a line
+unfoldable pub letters : List ℕ → ℕ
+letters [] = 0
+letters (b ∷ s) = cond (is_blank b) 0 (suc (letters s))
+
+-- the position after the first word from a position on
+unfoldable pub word_end : List ℕ → ℕ → ℕ
+word_end l at = let from = at + blanks (drop at l) in from + letters (drop from l)
 
 abbrev pub is_none : List (List ℕ) → Bool
 is_none [] = true

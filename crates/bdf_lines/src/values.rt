@@ -1,8 +1,8 @@
 // The numbers of a line, decimal and hexadecimal, and the lines that have them.
-ghost use Rattle.std.specs.Prelude.{◌≡◌, ◌+◌, ◌-◌, ◌*◌, ◌≤◌, ◌<◌, min, true, length, None, Some, MatchOption};
+ghost use Rattle.std.specs.Prelude.{◌≡◌, ◌+◌, ◌-◌, ◌*◌, ◌≤◌, ◌<◌, min, true, length, drop, None, Some, MatchOption, IfSome};
 ghost use Rattle.bdf_lines.specs.Keywords.{encoding, attributes};
 ghost use Rattle.bdf_lines.specs.Words.{words, is_digit, most, digits_of, number_of, has_numbers, count_of, four_numbers, four_of, encoding_of, is_hex_pair, row_of};
-ghost use Rattle.bdf_lines.specs.Rest.{first_number, hex_of};
+ghost use Rattle.bdf_lines.specs.Rest.{word_end, first_number, hex_of};
 ghost use Rattle.bdf_lines.specs.Table.{IsTable};
 
 use super::words;
@@ -68,7 +68,8 @@ fn number_of(word: &[u8]) -> Option<Number>
 
 // The number that is the first word of a line, and what follows it.
 fn first_number(line: &[u8]) -> Option<(Number, &[u8])>
-    ensures { MatchOption result (first_number (words line.now) ≡ None) (λ p. first_number (words line.now) ≡ Some (p.0, words p.1.now)) }
+    ensures word { MatchOption result (first_number (words line.now) ≡ None) (λ p. first_number (words line.now) ≡ Some (p.0, words p.1.now)) }
+    ensures place { IfSome result (λ p. p.1.now ≡ drop (word_end line.now 0) line.now) }
 {
     let (word, rest) = words::first_word(line)?;
     let n = number_of(word)?;
@@ -88,7 +89,7 @@ pub fn has_numbers(line: &[u8], name: &[u8], n: u32) -> bool
         };
         rest = next;
     }
-    words::is_end(rest)
+    words::is_end(rest, 0)
 }
 
 // The keyword and a count.
@@ -97,7 +98,7 @@ pub fn count_of(line: &[u8], name: &[u8]) -> Option<u64>
 {
     let rest = words::after_word(line, name)?;
     let (n, rest) = first_number(rest)?;
-    if n.negative | !words::is_end(rest) {
+    if n.negative | !words::is_end(rest, 0) {
         return None;
     }
     Some(n.size)
@@ -111,7 +112,7 @@ fn four_numbers(line: &[u8]) -> Option<Four>
     let (height, rest) = first_number(rest)?;
     let (x, rest) = first_number(rest)?;
     let (y, rest) = first_number(rest)?;
-    if !words::is_end(rest) {
+    if !words::is_end(rest, 0) {
         return None;
     }
     Some(Four {
@@ -135,11 +136,11 @@ pub fn encoding_of(line: &[u8]) -> Option<Number>
 {
     let rest = words::after_word(line, b"ENCODING")?;
     let (n, rest) = first_number(rest)?;
-    if words::is_end(rest) {
+    if words::is_end(rest, 0) {
         return Some(n);
     }
     let (_, rest) = first_number(rest)?;
-    if words::is_end(rest) & n.negative & (n.size == 1) {
+    if words::is_end(rest, 0) & n.negative & (n.size == 1) {
         return Some(n);
     }
     None
@@ -201,7 +202,7 @@ pub fn is_attributes(line: &[u8]) -> bool
     if word.len() != 4 {
         return false;
     }
-    words::is_end(rest) & hexadecimal(word).is_some()
+    words::is_end(rest, 0) & hexadecimal(word).is_some()
 }
 
 // A bitmap line of so many pixels.

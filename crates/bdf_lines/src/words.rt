@@ -1,8 +1,8 @@
 // The words of a line, and the lines that begin with a keyword.
-ghost use Rattle.std.specs.Prelude.{◌≡◌, [], ◌∷◌, None, Some, MatchOption};
+ghost use Rattle.std.specs.Prelude.{◌≡◌, [], ◌∷◌, None, Some, MatchOption, IfSome, take, drop};
 ghost use Rattle.bdf_lines.specs.Keywords.{comment};
 ghost use Rattle.bdf_lines.specs.Words.{is_blank, words, is_alone, is_named, is_pair, is_comment};
-ghost use Rattle.bdf_lines.specs.Rest.{is_none, after_word};
+ghost use Rattle.bdf_lines.specs.Rest.{blanks, letters, word_end, is_none, after_word};
 
 #[tactic(auto, unfolding(crate::specs::Words::is_blank))]
 fn is_blank(b: u8) -> bool
@@ -13,7 +13,8 @@ fn is_blank(b: u8) -> bool
 
 // The first word of a line, and what follows it.
 pub fn first_word(line: &[u8]) -> Option<(&[u8], &[u8])>
-    ensures { MatchOption result (words line.now ≡ []) (λ p. words line.now ≡ p.0.now ∷ words p.1.now) }
+    ensures word { MatchOption result (words line.now ≡ []) (λ p. words line.now ≡ p.0.now ∷ words p.1.now) }
+    ensures place { IfSome result (λ p. (p.0.now ≡ take (letters (drop (blanks line.now) line.now)) (drop (blanks line.now) line.now)) × (p.1.now ≡ drop (word_end line.now 0) line.now)) }
 {
     let start = line.iter().position(|b| !is_blank(*b))?;
     let word = &line[start..];
@@ -21,16 +22,20 @@ pub fn first_word(line: &[u8]) -> Option<(&[u8], &[u8])>
     Some(word.split_at(end))
 }
 
-// Whether a line has no word.
-pub fn is_end(line: &[u8]) -> bool
-    ensures { result ≡ is_none (words line.now) }
+// Whether no word stands from a position on.
+pub fn is_end(line: &[u8], at: usize) -> bool
+    ensures { result ≡ is_none (words (drop at line.now)) }
 {
-    first_word(line).is_none()
+    let Some(rest) = line.get(at..) else {
+        return true;
+    };
+    first_word(rest).is_none()
 }
 
 // What follows the first word of a line, if it is the given one.
 pub fn after_word<'a>(line: &'a [u8], name: &[u8]) -> Option<&'a [u8]>
-    ensures { MatchOption result (after_word name.now (words line.now) ≡ None) (λ rest. after_word name.now (words line.now) ≡ Some (words rest.now)) }
+    ensures word { MatchOption result (after_word name.now (words line.now) ≡ None) (λ rest. after_word name.now (words line.now) ≡ Some (words rest.now)) }
+    ensures place { IfSome result (λ rest. rest.now ≡ drop (word_end line.now 0) line.now) }
 {
     let (word, rest) = first_word(line)?;
     if word == name {
@@ -43,14 +48,14 @@ pub fn after_word<'a>(line: &'a [u8], name: &[u8]) -> Option<&'a [u8]>
 pub fn is_alone(line: &[u8], name: &[u8]) -> bool
     ensures { result ≡ is_alone name.now (words line.now) }
 {
-    after_word(line, name).is_some_and(|rest| is_end(rest))
+    after_word(line, name).is_some_and(|rest| is_end(rest, 0))
 }
 
 // The keyword and a name.
 pub fn is_named(line: &[u8], name: &[u8]) -> bool
     ensures { result ≡ is_named name.now (words line.now) }
 {
-    after_word(line, name).is_some_and(|rest| !is_end(rest))
+    after_word(line, name).is_some_and(|rest| !is_end(rest, 0))
 }
 
 // The keyword and a given word.

@@ -1,6 +1,6 @@
 -- `read` meets its contract: a file that is not measured is refused, and else its font is written. Assumes nothing.
 use Rattle.std.proofs.lemmas.Result.{err_from_is_err_and}
-use Rattle.bdf.proofs.Fonts.{nothing_room, nothing_good, file_refused, file_kept}
+use Rattle.bdf.proofs.Fonts.{nothing_room, nothing_good, measured_is, file_refused, file_kept}
 use Rattle.bdf.proofs.read.Goals as goal
 
 pub pass-requires-clause-room : goal.pass-requires-clause-room
@@ -14,3 +14,6 @@ returns-in_err-last-clause-code c = let p = err_from_is_err_and c.from_residual.
 
 pub returns-in_err-last-clause-output_after : goal.returns-in_err-last-clause-output_after
 returns-in_err-last-clause-output_after c = search (file_kept, c.in_err-last.was)
+
+pub invariant_of-write : goal.invariant_of-write
+invariant_of-write c = search (measured_is, c.in_ok-last.was)

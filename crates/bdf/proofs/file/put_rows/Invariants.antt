@@ -1,4 +1,4 @@
--- `put_rows` meets its contract. The invariant: the table is the table of digits, and from the first line to the present one what the rest comes to and puts stays.
+-- `put_rows` meets its contract. The invariant: the reader is the one after so many bitmap lines, and from the first line to the present one what the rest comes to and puts stays.
 -- Assumes nothing.
 use mathlib.Core.Path.{◌≡◌}
 use Rattle.bdf.specs.Walk.{Carries, rows_read}

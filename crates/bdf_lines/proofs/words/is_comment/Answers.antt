@@ -4,4 +4,4 @@ use Rattle.bdf_lines.proofs.Rest.{comment_if}
 use Rattle.bdf_lines.proofs.words.is_comment.Goals as goal
 
 pub returns : goal.returns
-returns c = comment_if _ _ c.first_word.result _ _ c.first_word.ensures c.is_none_or.ensures (λ y p. search rules)
+returns c = comment_if _ _ c.first_word.result _ _ c.first_word.ensures.word c.is_none_or.ensures (λ y p. search rules)
