@@ -25,6 +25,19 @@ use Rattle.line.specs.Limits.{FontLimits}
 
 -- ---- counts that are asked for, or not
 
+pub counted_none : (counts : Bool) → ◌≡◌ {A = ℕ} (cond counts 0 0) 0
+counted_none true = refl
+counted_none false = refl
+
+-- a sum is counted part by part
+pub counted_sum : (counts : Bool) (m n : ℕ) → cond counts (m + n) 0 ≡ cond counts m 0 + cond counts n 0
+counted_sum true m n = refl
+counted_sum false m n = refl
+
+pub counted_few : (counts : Bool) (n : ℕ) → cond counts n 0 ≤ n
+counted_few true n = omega arith
+counted_few false n = omega arith
+
 -- what is told where it is asked for is told
 counted_if : (counts : Bool) (m n : ℕ) (told : Option ℕ) → (counts ≡ true → m ≡ n) → told ≡ then_some counts m → told ≡ cond counts (Some n) None
 counted_if true m n told h t = t ∙ ap Some (h refl)
