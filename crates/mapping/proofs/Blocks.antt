@@ -243,6 +243,12 @@ module _ (s : List ℕ) (limit : ℕ) where
       continued : (j : ℕ) → j < n → is_lead (get_or s (r.at + j) 0) ≡ false
       continued j l = rw (← rest_byte s r.at j) (fails_before_first is_lead (bytes_from s r.at) j 0 (rw e at l))
 
+      pub on_lead : r.at + n < length s → is_lead (get_or s (r.at + n) 0) ≡ true
+      on_lead y =
+          let z : position_or_len is_lead (bytes_from s r.at) < length (bytes_from s r.at) = omega (arith, rest_length s r.at) in
+          let t = prefix_len_stops (λ b. not (is_lead b)) (bytes_from s r.at) 0 z in
+          rw (e, ← rest_byte s r.at (position_or_len is_lead (bytes_from s r.at))) (not-false _ t)
+
       pub skips_on : 0xC0 ≤ limit → Fits w8 limit → SkipsBelow s limit (record { at = r.at + n; count = r.count })
       skips_on m f =
           let none = leads_none s r.at n continued in
@@ -260,10 +266,7 @@ module _ (s : List ℕ) (limit : ℕ) where
                     )
               ];
             };
-            boundary = λ x y.
-                let z : position_or_len is_lead (bytes_from s r.at) < length (bytes_from s r.at) = omega (arith, rest_length s r.at) in
-                let t = prefix_len_stops (λ b. not (is_lead b)) (bytes_from s r.at) 0 z in
-                rw (e, ← rest_byte s r.at (position_or_len is_lead (bytes_from s r.at))) (not-false _ t);
+            boundary = λ x y. on_lead y;
           }
 
   -- for a character whose sequence begins with the limit or a higher byte; 00 is the highest

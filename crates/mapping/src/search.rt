@@ -1,6 +1,6 @@
 // The search over characters that a mapping lists singly: bytes with which neither a range nor the character looked for begins are
 // passed over in blocks, and a character is counted for each lead byte among them.
-ghost use Rattle.std.specs.Prelude.{◌≡◌, ◌<◌, ◌≤◌, true, length, IfSome};
+ghost use Rattle.std.specs.Prelude.{◌≡◌, ◌<◌, ◌≤◌, true, length, get_or, IfSome};
 ghost use Rattle.std.specs.List.{position_or_len};
 ghost use Rattle.characters.specs.Utf8.{well_formed};
 ghost use Rattle.mapping.specs.Search.{is_lead, leads, needle_of, may_begin, may_begin_at, OfBlock, OfHit, Below, SkipsBelow, Passes, Skips, IsNeedle};
@@ -189,7 +189,8 @@ fn before_lead(bytes: &[u8]) -> usize
 // Passes over the same blocks, and on to the next lead byte. `SkipsBelow`: see `passed_below` in lib.rt.
 pub fn pass_below(bytes: &[u8], lead: u8) -> Passed
     requires { 0xC0 ≤ lead }
-    ensures { SkipsBelow bytes.now lead result }
+    ensures skips { SkipsBelow bytes.now lead result }
+    ensures on_lead { result.at < length bytes.now → is_lead (get_or bytes.now result.at 0) ≡ true }
 {
     let blocks = pass_blocks(bytes, lead);
     Passed {
