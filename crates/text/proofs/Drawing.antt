@@ -1,7 +1,7 @@
 -- A text drawn line by line: what is drawn, counted and left at each line. Assumes nothing.
 use Prim.Native.Nat.{ℕ, ◌+◌}
 use native.Mathlib.Omega.{arith}
-use mathlib.Core.Path.{◌≡◌, sym, ap, ◌∙◌}
+use mathlib.Core.Path.{◌≡◌, refl, sym, ap, ◌∙◌}
 use mathlib.Core.Bool.{Bool, true, cond}
 use Rattle.std.specs.Prelude.{Option, Some, None, unwrap_or}
 use mathlib.Core.List.{List, []}
@@ -14,17 +14,18 @@ use Rattle.geometry.specs.declared.canvas.Frame.{Frame}
 use Rattle.geometry.specs.Painted.{Painted}
 use Rattle.geometry.proofs.Paintings.{painted_none, painted_then}
 use Rattle.characters.specs.Utf8.{chars}
-use Rattle.characters.specs.Lines.{without_return}
+use Rattle.characters.specs.Lines.{lines, without_return}
 use Rattle.line.specs.Line.{Font, font_of, top_edge, unlisted, string, advance}
 use Rattle.text.specs.declared.texts.TextLayout.{TextLayout}
 use Rattle.text.specs.declared.texts.TextLine.{TextLine}
 use Rattle.text.specs.declared.placed.TextLines.{TextLines}
 use Rattle.text.specs.declared.texts.Text as Lent
-use Rattle.text.specs.Text.{Text, place_line, placed_lines, line_layer, lines_layer, layer, line_next, last_next, next, line_replaced, lines_replaced, replaced}
+use Rattle.text.specs.Text.{Text, line_height, place_line, placed_lines, line_layer, lines_layer, layer, line_next, last_next, next, line_replaced, lines_replaced, replaced}
 use Rattle.text.specs.Lines.{line_corner, is_below}
 use Rattle.text.specs.Lent.{lent_font, lent_text, line_text, placed_line}
 use Rattle.text.specs.Remaining.{lines_left, LineGiven}
-use Rattle.text.proofs.Below.{nothing_painted, left_below}
+use Rattle.text.proofs.Below.{lines_below, nothing_painted, left_below}
+use Rattle.text.proofs.Places.{height_small}
 use Rattle.text.proofs.Replaced.{replaced_few}
 
 -- ---- `draw_line`: `corner` is the line's corner, `shown` its bytes without the return, and `f` the text's font
@@ -54,18 +55,29 @@ module _ (self : Lent.Text) where
   t = lent_text self.layout
 
   module _ (first : Frame) where
+    -- where the text starts below the clip, nothing of it is shown
+    pub paint_nothing : (r : Bool) → r ≡ is_below first.target.clip_area (top_edge f.mono t.text_style.baseline t.position.y) → r ≡ true → Painted first (layer f t) first
+    unfolding layer placed_lines
+    paint_nothing r e h = painted_none first _ (lines_below f t first.target (lines t.text) t.position.y first.greys.now (sym e ∙ h))
+
     -- what is painted at a line: those before it are
     pub record LinesPainted (s : TextLines) (frame : Frame) : Type 0 where
       pub whole : (last : Frame) → Painted frame (lines_layer f t (lines_left s)) last → Painted first (layer f t) last
       pub same_layout : s.layout.now ≡ self.layout
+      pub same_target : frame.target ≡ first.target
 
     pub paint_start : (s : TextLines) → s.layout.now ≡ self.layout → lines_left s ≡ placed_lines f.mono t → LinesPainted s first
     unfolding layer
-    paint_start s same e = record { whole = λ last p. rw e at p; same_layout = same }
+    paint_start s same e = record { whole = λ last p. rw e at p; same_layout = same; same_target = refl }
 
     module _ (s : TextLines) (frame : Frame) (d : LinesPainted s frame) where
       pub paint_end : lines_left s ≡ [] → Painted first (layer f t) frame
       paint_end e = d.whole frame (painted_none frame _ (rw e (nothing_painted f t frame.target frame.greys.now)))
+
+      -- where the next line lies below the clip, all that is shown is painted
+      pub paint_below : (y : ℕ) → s.y ≡ y → (r : Bool) → r ≡ is_below first.target.clip_area (top_edge f.mono t.text_style.baseline y) → r ≡ true → Painted first (layer f t) frame
+      paint_below y n r e h =
+          d.whole frame (painted_none frame _ (left_below f t frame.target frame.greys.now s (rw (d.same_target, n) (sym e ∙ h))))
 
       module _ (l : TextLine) (next : TextLines) (g : LineGiven s l next) where
         pub paint_step : (after : Frame) → Painted frame (line_layer f (line_text self.layout l) (placed_line self.layout l)) after → LinesPainted next after
@@ -73,12 +85,16 @@ module _ (self : Lent.Text) where
         paint_step after p = record {
           whole = λ last r. d.whole last (rw (g.first, d.same_layout) (painted_then frame _ _ after last p r));
           same_layout = ap (λ (b : Bor TextLayout). b.now) g.same_layout ∙ d.same_layout;
+          same_target = p.same_target ∙ d.same_target;
         }
 
-        -- where the line lies below the clip, all that is shown is painted
-        pub paint_below : (r : Bool) → r ≡ is_below frame.target.clip_area (top_edge f.mono t.text_style.baseline l.position.y) → r ≡ true → Painted first (layer f t) frame
-        paint_below r e h =
-            d.whole frame (painted_none frame _ (left_below f t frame.target frame.greys.now s (rw g.same_y at (sym e ∙ h))))
+        -- the next line stands lower by the line height
+        module _ (height : ℕ) (e : height ≡ line_height f.mono t.text_style.line_height) where
+          pub next_is : next.y ≡ l.position.y + height
+          next_is = rw (e, g.same_y) (rw d.same_layout at g.next_y)
+
+          pub next_fits : Fits w32 (l.position.y + height)
+          next_fits = let y = l.limits.near_y in rw e (omega (arith, height_small f.mono self.layout.metrics.limits t.text_style.line_height self.layout.limits.height_small))
 
   -- what is replied at a line: `p` is the next position of the one before it, and `n` characters of those before it are counted
   pub record LinesCounted (s : TextLines) (p : Point) (n : ℕ) : Type 0 where

@@ -148,20 +148,26 @@ impl<'a> Text<'a> {
         DrawnText { next, replaced }
     }
 
-    // Draws the text as far as it is shown: the first line below the clip ends it, since those after that one stand no higher.
+    // Draws the text as far as it is shown: the first line below the clip ends it, since those after that one stand no higher. It is told by its
+    // y, before its end is looked for.
     pub fn paint(&self, frame: &mut Frame)
         ensures { Painted frame.old (layer (lent_font self.now) (lent_text self.now.layout)) frame.new }
     {
         let layout = &self.layout;
+        let clip = frame.target.clip_area;
+        if layout
+            .text_style
+            .starts_below(layout.metrics, layout.position.y, clip)
+        {
+            return;
+        }
+        let height = layout.line_height();
         for line in layout.lines() {
-            let clip = frame.target.clip_area;
-            if layout
-                .text_style
-                .starts_below(layout.metrics, line.position.y, clip)
-            {
+            self.draw_line(frame, &line, false);
+            let y = line.position.y + height;
+            if layout.text_style.starts_below(layout.metrics, y, clip) {
                 return;
             }
-            self.draw_line(frame, &line, false);
         }
     }
 }

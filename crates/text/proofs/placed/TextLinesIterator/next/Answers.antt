@@ -1,4 +1,5 @@
 -- `next` of the iterator gives the first line left, if there is one. Assumes nothing.
+use Prim.Native.Nat.{ℕ, ◌+◌}
 use native.Mathlib.Omega.{arith}
 use lib.ListN.{length}
 use mathlib.Core.Path.{refl, ap}
@@ -20,7 +21,7 @@ invariant_of-result c = record { limits = given_limits c.args.self.now _ c.unwra
 
 pub returns-clause-steps : goal.returns-clause-steps
 unfolding lines_left
-returns-clause-steps c = record { first = line_first c.args.self.now _ c.unwrap_or.ensures c.if-unwrap_or-self.false _ c.line_of-text.ensures.result_value; same_layout = refl; same_y = refl }
+returns-clause-steps c = record { first = line_first c.args.self.now _ c.unwrap_or.ensures c.if-unwrap_or-self.false _ c.line_of-text.ensures.result_value; same_layout = refl; same_y = refl; next_y = ap (λ (h : ℕ). c.args.self.now.y + h) c.args.self.now.lower_by }
 
 pub returns-clause-goes : goal.returns-clause-goes
 unfolding lines_left
