@@ -141,9 +141,10 @@ impl Metrics {
     {
         let width = self.advance(text, style);
         let rows = self.ink_rows(style);
+        let first = corner.y + rows.top;
         Rectangle {
             left: corner.x,
-            top: corner.y + rows.top,
+            top: first,
             width,
             height: rows.height,
         }

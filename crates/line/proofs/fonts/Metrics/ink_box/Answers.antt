@@ -3,8 +3,8 @@ use Rattle.line.specs.Line.{ink_box}
 use Rattle.line.proofs.Ink.{first_fits}
 use Rattle.line.proofs.fonts.Metrics.ink_box.Goals as goal
 
-pub overflow_add-result : goal.overflow_add-result
-overflow_add-result c = search first_fits
+pub overflow_add-first : goal.overflow_add-first
+overflow_add-first c = search first_fits
 
 pub returns : goal.returns
 unfolding ink_box
