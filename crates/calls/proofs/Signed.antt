@@ -19,7 +19,7 @@ use Rattle.calls.specs.declared.Drawn.{Drawn}
 use Rattle.calls.specs.declared.Box.{Box}
 use Rattle.calls.specs.declared.Batch.{Batch}
 use Rattle.calls.specs.Calls.{position_reply, drawn_reply, box_reply, batch}
-use Rattle.calls.specs.Replies.{PointFits, CornerFits}
+use Rattle.calls.specs.Replies.{PointFits, CornerFits, box_of}
 
 by_sign : (x : ℕ) → x < 2 ^ 31 → (t : Bool) → SFits w32 (cond t (negsuc (origin - suc x)) (pos (x - origin)))
 by_sign x h true = record { sfits = omega arith }
@@ -52,10 +52,13 @@ pub drawn_is : (p : Point) (x y : ℤ) (n : ℕ) → PointFits p → x ≡ signe
 unfolding drawn_reply
 drawn_is p x y n f ex ey = rw (read_signed p.x f.x x ex, read_signed p.y f.y y ey)
 
-pub box_is : (a : Rectangle) (left top : ℤ) → CornerFits a → left ≡ signed a.left → top ≡ signed a.top
-    → ◌≡◌ {A = Box} (record { code = 0; left = read left; top = read top; width = a.width; height = a.height }) (box_reply 0 a)
+pub box_is : (a : Rectangle) (r : Box) → r ≡ box_of 0 a → r ≡ box_reply 0 a
 unfolding box_reply
-box_is a left top f el et = rw (read_signed a.left f.left left el, read_signed a.top f.top top et)
+box_is a r q = q
+
+pub edited_is : (code : ℕ) (a : Rectangle) (left top : ℤ) → CornerFits a → left ≡ signed a.left → top ≡ signed a.top
+    → ◌≡◌ {A = Box} (record { code = code; left = read left; top = read top; width = a.width; height = a.height }) (box_of code a)
+edited_is code a left top f el et = rw (read_signed a.left f.left left el, read_signed a.top f.top top et)
 
 pub batch_is : (n code made : ℕ) (a : Rectangle) (left top : ℤ) → CornerFits a → n ≡ code → left ≡ signed a.left → top ≡ signed a.top
     → ◌≡◌ {A = Batch} (record { code = n; made = made % 4_294_967_296; left = read left; top = read top; width = a.width; height = a.height }) (batch code made (signed_rectangle a))

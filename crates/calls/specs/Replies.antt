@@ -5,6 +5,7 @@ use Rattle.refusals.specs.declared.Refusal.{Refusal}
 use Rattle.refusals.specs.Numbers.{number}
 use Rattle.geometry.specs.declared.Point.{Point}
 use Rattle.geometry.specs.declared.Rectangle.{Rectangle}
+use Rattle.geometry.specs.Layer.{signed}
 use Rattle.calls.specs.declared.Number.{Number}
 use Rattle.calls.specs.declared.Glyph.{Glyph}
 use Rattle.calls.specs.declared.Position.{Position}
@@ -38,6 +39,11 @@ pub record PointFits (p : Point) : Type 0 where
 pub record CornerFits (a : Rectangle) : Type 0 where
   pub left : a.left < 2 ^ 31
   pub top : a.top < 2 ^ 31
+
+-- a reply by its code and a rectangle
+
+abbrev pub box_of : ℕ → Rectangle → Box
+box_of code a = record { code = code; left = signed a.left; top = signed a.top; width = a.width; height = a.height }
 
 -- the number of a refusal, or 0 for none
 abbrev pub code_of : Option Refusal → ℕ

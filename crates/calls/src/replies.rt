@@ -1,76 +1,101 @@
-// The replies by value: a good one from numbers counted from the origin, and a refused one, with zeros.
+// The replies by value: a good one from numbers counted from the origin, and a refused one, with zeros, by any number or by the refusal.
 ghost use Rattle.std.specs.Prelude.{◌≡◌, ◌<◌, ◌^◌};
 ghost use Rattle.refusals.specs.Numbers.{number};
 ghost use Rattle.geometry.specs.Layer.{signed};
 ghost use Rattle.calls.specs.Calls.{position_reply, drawn_reply, box_reply};
-ghost use Rattle.calls.specs.Replies.{refused_number, refused_glyph, refused_position, refused_drawn, refused_box, PointFits, CornerFits};
+ghost use Rattle.calls.specs.Replies.{refused_number, refused_glyph, refused_position, refused_drawn, refused_box, PointFits, CornerFits, box_of};
 
 use super::{Box, Drawn, Glyph, Number, Position};
 use geometry::{ORIGIN, Point, Rectangle};
 use refusals::Refusal;
 
 // The reply of a refused call that gives a number.
+pub fn refused_number(code: u32) -> Number
+    ensures { result ≡ refused_number code }
+{
+    Number { code, value: 0 }
+}
+
 impl From<Refusal> for Number {
     ghost from_gives = { λ refusal reply. reply ≡ refused_number (number refusal) };
 
     fn from(refusal: Refusal) -> Number {
-        let code = u32::from(refusal);
-        Number { code, value: 0 }
+        refused_number(u32::from(refusal))
     }
 }
 
 // The reply of a refused call that gives a glyph.
+pub fn refused_glyph(code: u32) -> Glyph
+    ensures { result ≡ refused_glyph code }
+{
+    Glyph {
+        code,
+        index: 0,
+        listed: 0,
+    }
+}
+
 impl From<Refusal> for Glyph {
     ghost from_gives = { λ refusal reply. reply ≡ refused_glyph (number refusal) };
 
     fn from(refusal: Refusal) -> Glyph {
-        let code = u32::from(refusal);
-        Glyph {
-            code,
-            index: 0,
-            listed: 0,
-        }
+        refused_glyph(u32::from(refusal))
     }
 }
 
 // The reply of a refused call that gives a position.
+pub fn refused_position(code: u32) -> Position
+    ensures { result ≡ refused_position code }
+{
+    Position { code, x: 0, y: 0 }
+}
+
 impl From<Refusal> for Position {
     ghost from_gives = { λ refusal reply. reply ≡ refused_position (number refusal) };
 
     fn from(refusal: Refusal) -> Position {
-        let code = u32::from(refusal);
-        Position { code, x: 0, y: 0 }
+        refused_position(u32::from(refusal))
     }
 }
 
 // The reply of a refused call that draws an item.
+pub fn refused_drawn(code: u32) -> Drawn
+    ensures { result ≡ refused_drawn code }
+{
+    Drawn {
+        code,
+        x: 0,
+        y: 0,
+        replaced: 0,
+    }
+}
+
 impl From<Refusal> for Drawn {
     ghost from_gives = { λ refusal reply. reply ≡ refused_drawn (number refusal) };
 
     fn from(refusal: Refusal) -> Drawn {
-        let code = u32::from(refusal);
-        Drawn {
-            code,
-            x: 0,
-            y: 0,
-            replaced: 0,
-        }
+        refused_drawn(u32::from(refusal))
     }
 }
 
 // The reply of a refused call that gives a rectangle.
+pub fn refused_box(code: u32) -> Box
+    ensures { result ≡ refused_box code }
+{
+    Box {
+        code,
+        left: 0,
+        top: 0,
+        width: 0,
+        height: 0,
+    }
+}
+
 impl From<Refusal> for Box {
     ghost from_gives = { λ refusal reply. reply ≡ refused_box (number refusal) };
 
     fn from(refusal: Refusal) -> Box {
-        let code = u32::from(refusal);
-        Box {
-            code,
-            left: 0,
-            top: 0,
-            width: 0,
-            height: 0,
-        }
+        refused_box(u32::from(refusal))
     }
 }
 
@@ -111,16 +136,24 @@ pub fn drawn_reply(p: Point, replaced: u32) -> Drawn
     }
 }
 
-// The reply of a good call that gives a rectangle.
-pub fn box_reply(a: Rectangle) -> Box
+// The reply of an edit by its code and its rectangle, which is empty, at the frame's corner, for a refused one.
+pub fn edit_reply(code: u32, a: Rectangle) -> Box
     requires { CornerFits a }
-    ensures { result ≡ box_reply 0 a }
+    ensures { result ≡ box_of code a }
 {
     Box {
-        code: 0,
+        code,
         left: signed(a.left),
         top: signed(a.top),
         width: a.width,
         height: a.height,
     }
+}
+
+// The reply of a good call that gives a rectangle.
+pub fn box_reply(a: Rectangle) -> Box
+    requires { CornerFits a }
+    ensures { result ≡ box_reply 0 a }
+{
+    edit_reply(0, a)
 }

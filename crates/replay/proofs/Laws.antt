@@ -1,8 +1,8 @@
--- Laws of stored bytes and of the kinds of edits. Assumes nothing.
+-- Laws of stored bytes, of the kinds of edits and of what stands behind an entry. Assumes nothing.
 use Prim.Native.Nat.{ℕ, ◌+◌, ◌-◌, ◌≤◌, ◌<◌}
 use native.Mathlib.Omega.{arith}
 use mathlib.Core.Path.{◌≡◌, refl, sym}
-use mathlib.Core.List.{List, ◌++◌, append_assoc}
+use mathlib.Core.List.{List, [], ◌++◌, append_assoc}
 use lib.IntN.{ℤ}
 use lib.ListN.{length, take, drop}
 use lib.Seq.{sets-eq, drop-drop}
@@ -12,6 +12,7 @@ use mir.Facts.{to_z-of_z}
 use borrow.Author.Tests.{le-leb, lt-leb, eq-eqb, ne_eqb}
 use Rattle.sheet.specs.Edits.{new_text, new_place, new_style}
 use Rattle.replay.specs.Edits.{edit_of}
+use Rattle.replay.specs.Given.{behind}
 use Rattle.replay.specs.Stored.{stored}
 
 -- ---- bytes stored
@@ -52,3 +53,14 @@ module _ (kind item : ℕ) (x y : ℤ) (bytes : List ℕ) where
   pub edit_style : (kind ≡ 0 → ⊥) → (kind ≡ 1 → ⊥) → edit_of kind item x y bytes ≡ new_style item bytes
   unfolding edit_of
   edit_style n m = rw (ne_eqb kind 0 n, ne_eqb kind 1 m)
+
+-- ---- what stands behind an entry
+
+module _ (l r : List ℕ) (size : ℕ) where
+  pub behind_last : size ≡ 0 → r ≡ [] → r ≡ behind size l
+  unfolding behind
+  behind_last e q = rw (eq-eqb size 0 e) q
+
+  pub behind_some : (size ≡ 0 → ⊥) → r ≡ drop size l → r ≡ behind size l
+  unfolding behind
+  behind_some n q = rw (ne_eqb size 0 n) q

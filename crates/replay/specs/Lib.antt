@@ -3,3 +3,4 @@ pub mod Edits
 pub mod Replies
 pub mod Stored
 pub mod Spelled
+pub mod Given

@@ -7,6 +7,8 @@ ghost use Rattle.std.specs.Prelude.{◌≡◌, true, ◌+◌, ◌*◌, ◌^◌, 
 ghost use Rattle.std.specs.Int.{w32, cast_signed};
 ghost use Rattle.std.specs.Iterator.{at_most};
 ghost use Rattle.std.specs.Option.{is_some};
+ghost use Rattle.std.specs.Fn.{FnReturnsAt};
+ghost use Rattle.replay.specs.Given.{GivesEntry};
 ghost use Rattle.replay.specs.Stored.{stored};
 
 mod edit;
@@ -90,6 +92,8 @@ impl<'a, F: Fn(&[u8]) -> usize> Entries<'a, F> {
 
 impl<'a, F: Fn(&[u8]) -> usize> Iterator for Entries<'a, F> {
     type Item = &'a [u8];
+
+    ghost next_gives = { GivesEntry (FnReturnsAt F.Fn) };
 
     ghost remaining = { λ e. at_most (length e.rest.now) };
 

@@ -1,5 +1,6 @@
 // Replies in one form, with zeros for the numbers that a reply lacks.
-ghost use Rattle.std.specs.Prelude.{◌≡◌, [], ◌∷◌};
+ghost use Rattle.std.specs.Prelude.{◌≡◌, [], ◌∷◌, min};
+ghost use Rattle.std.specs.Int.{w32, cast_unsigned};
 ghost use Rattle.replay.specs.Replies.{numbers, batch_numbers, reply_numbers};
 
 use station::{Batch, Box, Drawn, Glyph, Number, Position, Step};
@@ -61,6 +62,8 @@ impl From<Batch> for Reply {
 }
 
 impl From<Number> for Reply {
+    ghost from_gives = { λ r s. reply_numbers s ≡ 0 ∷ r.code ∷ r.value ∷ 0 ∷ 0 ∷ 0 ∷ [] };
+
     fn from(reply: Number) -> Reply {
         Reply {
             left: reply.value.cast_signed(),
@@ -70,6 +73,8 @@ impl From<Number> for Reply {
 }
 
 impl From<Glyph> for Reply {
+    ghost from_gives = { λ r s. reply_numbers s ≡ 0 ∷ r.code ∷ r.index ∷ r.listed ∷ 0 ∷ 0 ∷ [] };
+
     fn from(reply: Glyph) -> Reply {
         Reply {
             left: reply.index.cast_signed(),
@@ -80,6 +85,8 @@ impl From<Glyph> for Reply {
 }
 
 impl From<Position> for Reply {
+    ghost from_gives = { λ r s. reply_numbers s ≡ 0 ∷ r.code ∷ cast_unsigned w32 r.x ∷ cast_unsigned w32 r.y ∷ 0 ∷ 0 ∷ [] };
+
     fn from(reply: Position) -> Reply {
         Reply {
             left: reply.x,
@@ -90,6 +97,8 @@ impl From<Position> for Reply {
 }
 
 impl From<Drawn> for Reply {
+    ghost from_gives = { λ r s. reply_numbers s ≡ 0 ∷ r.code ∷ cast_unsigned w32 r.x ∷ cast_unsigned w32 r.y ∷ r.replaced ∷ 0 ∷ [] };
+
     fn from(reply: Drawn) -> Reply {
         Reply {
             left: reply.x,
@@ -102,6 +111,8 @@ impl From<Drawn> for Reply {
 
 // An offset of 4,294,967,295 or more, which no list holds, is 4,294,967,295.
 impl From<Step> for Reply {
+    ghost from_gives = { λ r s. reply_numbers s ≡ 0 ∷ r.code ∷ r.ended ∷ r.character ∷ min r.next 4_294_967_295 ∷ 0 ∷ [] };
+
     fn from(reply: Step) -> Reply {
         Reply {
             left: reply.ended.cast_signed(),

@@ -11,7 +11,7 @@ ghost use Rattle.calls.specs.Calls.{index_reply, contains_reply, bounding_box_re
 ghost use Rattle.calls.specs.Replies.{reply_of, CornerFits};
 
 use batch::make_list;
-use calls::batches::batch_reply;
+use calls::batches::{batch_reply, code_of};
 use calls::codes::{
     draw_item_code, font_code, frame_code, frame_size, item_code, list_code, page_code,
     whitespace_code,
@@ -190,7 +190,7 @@ pub fn station_edit_list(sheet: &mut [u8], frame: &mut [u8], list: &[u8]) -> Bat
         Err(refusal) => Batch::from(refusal),
         Ok(_) => {
             let made = make_list(sheet, frame, list);
-            batch_reply(made.refused, made.made, made.area)
+            batch_reply(code_of(made.refused), made.made, made.area)
         }
     }
 }
@@ -256,7 +256,7 @@ pub fn station_read_bdf(file: &[u8], output: &mut [u8]) -> Number
     ensures output_after { output.new ≡ written file.now output.old }
 {
     match bdf::read(file, output) {
-        Err(refusal) => Number::from(refusal),
+        Err(refused) => Number::from(refused),
         Ok(length) => Number {
             code: 0,
             value: length,

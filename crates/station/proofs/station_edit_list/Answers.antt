@@ -19,7 +19,7 @@ pub make_list-made-requires : goal.make_list-made-requires
 make_list-made-requires c = list_checked _ _ _ c.in-Ok.ensures.value
 
 pub returns-in-Ok-clause-value : goal.returns-in-Ok-clause-value
-returns-in-Ok-clause-value c = list_replied _ _ _ c.in-Ok.ensures.value _ _ c.batch_reply.ensures c.make_list-made.ensures.result_value
+returns-in-Ok-clause-value c = list_replied _ _ _ c.in-Ok.ensures.value _ _ (rw c.code_of.ensures at c.batch_reply.ensures) c.make_list-made.ensures.result_value
 
 pub returns-in-Ok-clause-sheet_after : goal.returns-in-Ok-clause-sheet_after
 unfolding edit_list_sheet edit_list_frame

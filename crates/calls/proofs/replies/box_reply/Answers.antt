@@ -1,4 +1,4 @@
--- The reply's coordinates are the signed ones.
+-- A good reply is the one by its code and rectangle.
 use Rattle.calls.proofs.Signed.{box_is}
 use Rattle.calls.proofs.replies.box_reply.Goals as goal
 
