@@ -270,14 +270,19 @@ module _ (s : List ℕ) (limit : ℕ) where
           }
 
   -- for a character whose sequence begins with the limit or a higher byte; 00 is the highest
-  pub passes_from : (r : Passed) → SkipsBelow s limit r → (ch lead : ℕ) → lead ≡ (needle_of ch).lead → (limit + 255) % 256 ≤ (lead + 255) % 256
-      → Passes s (needle_of ch) r
-  unfolding before
-  passes_from r g ch lead e l = below-passes r g.below (needle_of ch) (rw (← e) l)
+  module _ (r : Passed) (g : SkipsBelow s limit r) (ch lead x y : ℕ) (e : lead ≡ (needle_of ch).lead) (f : x ≡ before limit) (i : y ≡ before lead) (l : x ≤ y) where
+    pub passes_from : Passes s (needle_of ch) r
+    passes_from = below-passes r g.below (needle_of ch) (rw (← e, ← f, ← i) l)
+
+    pub skips_from : 0 < r.at → Skips s (needle_of ch) r
+    skips_from h = record { passes = passes_from; boundary = g.boundary h }
 
   -- no block yet
   pub below_start : Below s limit (record { at = 0; count = 0 })
   below_start = record { within = omega arith; counted = leads-start s; low = λ q a. absurd (omega arith) }
+
+  pub skips_below_none : SkipsBelow s limit (record { at = 0; count = 0 })
+  skips_below_none = record { below = below_start; boundary = λ l. absurd (omega arith) }
 
   module _ (k n : ℕ) (g : Below s limit (record { at = 128 * k; count = n })) where
     -- a block more

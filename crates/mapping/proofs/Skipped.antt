@@ -23,8 +23,8 @@ use Rattle.mapping.specs.declared.Entry.TheVariants as entry
 use Rattle.std.specs.Prelude.{Option, None}
 use Rattle.mapping.specs.Entries.{entry_at, at_most}
 use Rattle.mapping.specs.Mapping.{spelled, list_of, place_from}
-use Rattle.mapping.specs.Search.{is_lead, leads, needle_of, may_begin, may_begin_at, SkipsBelow, Passes, Skips, Resumes}
-use Rattle.mapping.proofs.Blocks.{leads-append, leads_one, passes_none, passes_from, skips_both, bytes_from, rest_length, chars_rest, well_rest}
+use Rattle.mapping.specs.Search.{is_lead, leads, before, needle_of, may_begin, may_begin_at, SkipsBelow, Passes, Skips, Resumes}
+use Rattle.mapping.proofs.Blocks.{leads-append, leads_one, passes_none, passes_from, skips_from, skips_both, bytes_from, rest_length, chars_rest, well_rest}
 use Rattle.mapping.proofs.Entries.{StoppedEntry, entry_range}
 use Rattle.mapping.proofs.Places.{place_capped, find_stopped}
 use Rattle.mapping.proofs.Sequences.{Spelt, step_spelt}
@@ -43,15 +43,12 @@ module _ (s : List ℕ) (p : Needle) (v : well_formed s ≡ true) where
   pub skips_none : Skips s p (record { at = 0; count = 0 })
   skips_none = record { passes = passes_none s p; boundary = λ h. well_lead s 0 (step_at s 0) refl v h }
 
-  -- up to a lead byte, unless nothing is passed over
-  skips-passed : (r : Passed) → Passes s p r → (0 < r.at → r.at < length s → is_lead (get_or s r.at 0) ≡ true) → Skips s p r
-  skips-passed r g b = record {
-    passes = g;
-    boundary = λ h. elim (dec_lt 0 r.at) [
-      | yes l ↦ b l h
-      | no l ↦ let z : r.at ≡ 0 = omega arith in rw z (well_lead s 0 (step_at s 0) refl v (omega arith))
-    ];
-  }
+  -- up to a lead byte, where nothing is passed over too
+  skips-all : (r : Passed) → Passes s p r → (0 < r.at → Skips s p r) → Skips s p r
+  skips-all r g f = elim (dec_lt 0 r.at) [
+    | yes l ↦ f l
+    | no l ↦ let z : r.at ≡ 0 = omega arith in record { passes = g; boundary = λ h. rw z (well_lead s 0 (step_at s 0) refl v (omega arith)) }
+  ]
 
 -- the needle that was found is the character's
 pub skips_needle : (s : List ℕ) (ch : ℕ) (p : Needle) (g r : Passed) → p ≡ needle_of ch → Passes s p g → Skips (bytes_from s g.at) p r
@@ -167,8 +164,9 @@ module _ (s : List ℕ) (ch : ℕ) (r : Passed) (g : Skips s (needle_of ch) r) (
 pub resumes : (s : List ℕ) (ch limit : ℕ) (r : Passed) → SkipsBelow s limit r → well_formed s ≡ true → (lead : ℕ) → lead ≡ (needle_of ch).lead
     → (low high : ℕ) → low ≡ (limit + 255) % 256 → high ≡ (lead + 255) % 256 → low ≤ high
     → (k m j : ℕ) → m ≡ min r.count 65_536 → j ≡ min (k + m) 65_536 → Resumes s ch k (bytes_from s r.at) j
+unfolding before
 resumes s ch limit r g v lead e low high x y h k m j a b =
-    let t = skips-passed s (needle_of ch) v r (passes_from s limit r g ch lead e (omega arith)) g.boundary in
+    let t = skips-all s (needle_of ch) v r (passes_from s limit r g ch lead low high e x y h) (skips_from s limit r g ch lead low high e x y h) in
     record {
       well = well_rest s r.at t.passes.within ∙ skip_well s ch r t v;
       small = omega arith;
